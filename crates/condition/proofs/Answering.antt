@@ -1,0 +1,148 @@
+-- From where a whole condition, value or action ends to the operations' answers. Assumes nothing.
+use mathlib.Core.Path.{_≡_, refl, sym, ap, _∙_}
+use mathlib.Core.Bool.{Bool, true, false, not, cond, _&&_}
+use mathlib.Core.Option.{Option, none, some}
+use mathlib.Core.List.{List, [], _∷_}
+use Prim.Native.Nat.{ℕ, zero, suc, _+_, _-_, _≤_, _<_}
+use native.Mathlib.Omega.{arith}
+use borrow.Author.Tests.{leb-true, leb-false, le-leb, lt-leb, eq-eqb, ne-eqb, eqb-true, eqb-false}
+use lib.Dec.{leb, eqb}
+use lib.ListN.{length, drop, length-drop}
+use lib.Seq.{drop-length}
+use Rattle.condition.specs.declared.Lent.{Lent}
+use Rattle.condition.specs.Tree.{Condition, Value, conditionNames, actionNames, isMonitor, isAtEntry}
+use Rattle.condition.specs.Parse.{Parsed, malformed, parsed, Reader, exactly, parseCondition, parseValue, parseAction}
+use Rattle.condition.specs.Meaning.{Environment, lent, holds, word}
+use Rattle.condition.specs.Answer.{Outcome, refused, given, sized, longest, judged, conditionOutcome, valueOutcome, runOutcome, actionOutcome, actionPaper, whether, conditionWhich, actionWhich}
+use Rattle.condition.specs.Walk.{bit, Ends, Skips, Gives, Means, Evaluates, conditionReader, valueReader, conditionBit, valueWord}
+use Rattle.condition.proofs.Naming.{unkept, unmonitored, entry-narrow, monitor-narrow, action-entry-narrow}
+use Rattle.condition.proofs.Evaluating.{EvaluatesCondition, EvaluatesValue}
+
+pub sized-length : (n : ℕ) (s : List ℕ) → sized n s ≡ true → length s ≤ 64
+sized-length n s e = go (leb n (length s)) (leb (length s) 64) refl e
+  where
+    go : (a b : Bool) → leb (length s) 64 ≡ b → (a && b) ≡ true → length s ≤ 64
+    go a true f e = leb-true (length s) 64 f
+    go true false f e = absurd (omega (arith, ap bit e))
+    go false false f e = absurd (omega (arith, ap bit e))
+
+-- short enough to be walked over from the start
+pub walkable : (n : ℕ) (s : List ℕ) → sized n s ≡ true → (length s ≤ 65535) × (0 ≤ length s + 1)
+walkable n s e = (omega (arith, sized-length n s e), omega arith)
+
+-- what ends just at the end is one and nothing behind it; anything else is not exactly one
+module _ {A : Type 0} (s : List ℕ) (q : ℕ) where
+  ends-whole : (p : Parsed A) → Ends s q p → q ≡ length s → (a : A) × (p ≡ parsed a [])
+  ends-whole malformed e h = absurd (omega arith)
+  ends-whole (parsed a rest) e h = (a, ap (parsed a) (sym (e .0) ∙ ap (λ (n : ℕ). drop n s) h ∙ drop-length s))
+
+  ends-elsewhere : (p : Parsed A) → Ends s q p → (q ≡ length s → ⊥) → exactly p ≡ none
+  ends-elsewhere malformed e h = refl
+  ends-elsewhere (parsed a []) e h = absurd (h (omega (arith, e .1, sym (length-drop q s) ∙ ap length (e .0))))
+  ends-elsewhere (parsed a (b ∷ t)) e h = refl
+
+module _ {A : Type 0} (R : ℕ → Reader A) (s : List ℕ) (q : ℕ) (x : Skips R s 0 q) where
+  pub whole : q ≡ length s → (a : A) × (R (length s) s ≡ parsed a [])
+  whole h = ends-whole s q (R (length s) s) (x .ends (length s) (omega arith)) h
+
+  pub elsewhere : (q ≡ length s → ⊥) → exactly (R (length s) s) ≡ none
+  elsewhere h = ends-elsewhere s q (R (length s) s) (x .ends (length s) (omega arith)) h
+
+bit-one : (b : Bool) (w : ℕ) → w ≡ bit b → eqb w 1 ≡ b
+bit-one true w e = eq-eqb w 1 e
+bit-one false w e = ne-eqb w 1 (λ h. omega arith)
+
+-- the meaning of the one that was parsed
+means-parsed : {A : Type 0} (f : A → ℕ) (w : ℕ) (a : A) (p : Parsed A) → p ≡ parsed a [] → Means f w p → w ≡ f a
+means-parsed f w a p e m = rw e at m
+
+module _ (s : List ℕ) (E : Environment) where
+  pub condition-length : sized 1 s ≡ false → refused 4 ≡ conditionOutcome s E
+  unfolding conditionOutcome
+  condition-length e = rw e
+
+  pub value-length : sized 1 s ≡ false → refused 4 ≡ valueOutcome s E
+  unfolding valueOutcome
+  value-length e = rw e
+
+  module _ (z : sized 1 s ≡ true) (q w : ℕ) where
+    pub condition-answer : EvaluatesCondition E s 0 q w → q ≡ length s → given (eqb w 1) ≡ conditionOutcome s E
+    unfolding conditionOutcome parseCondition
+    condition-answer x h =
+        let y = whole (conditionReader (lent E)) s q (x .skips) h in
+        rw (z, y .1) (ap given (bit-one (holds (y .0) E) w (means-parsed (conditionBit E) w (y .0) (conditionReader (lent E) (length s) s) (y .1) (x .means (length s) (omega arith)))))
+
+    pub condition-malformed : EvaluatesCondition E s 0 q w → (q ≡ length s → ⊥) → refused 5 ≡ conditionOutcome s E
+    unfolding conditionOutcome parseCondition
+    condition-malformed x h = rw (z, elsewhere (conditionReader (lent E)) s q (x .skips) h)
+
+    pub value-answer : EvaluatesValue E s 0 q w → q ≡ length s → given w ≡ valueOutcome s E
+    unfolding valueOutcome parseValue
+    value-answer x h =
+        let y = whole (valueReader (lent E)) s q (x .skips) h in
+        rw (z, y .1) (ap given (means-parsed (valueWord E) w (y .0) (valueReader (lent E) (length s) s) (y .1) (x .means (length s) (omega arith))))
+
+    pub value-malformed : EvaluatesValue E s 0 q w → (q ≡ length s → ⊥) → refused 5 ≡ valueOutcome s E
+    unfolding valueOutcome parseValue
+    value-malformed x h = rw (z, elsewhere (valueReader (lent E)) s q (x .skips) h)
+
+-- whether the bytes are a condition at all
+module _ (L : Lent) (s : List ℕ) where
+  pub no-length : sized 1 s ≡ false → false ≡ conditionWhich (λ _. true) L s
+  unfolding conditionWhich
+  no-length e = rw e
+
+  pub is-one : sized 1 s ≡ true → (q : ℕ) → Skips (conditionReader L) s 0 q → eqb q (length s) ≡ conditionWhich (λ _. true) L s
+  unfolding conditionWhich parseCondition
+  is-one e q x = rw e (go (eqb q (length s)) refl)
+    where
+      go : (b : Bool) → eqb q (length s) ≡ b → b ≡ whether (exactly (conditionReader L (length s) s)) (λ _. true)
+      go true h = rw (whole (conditionReader L) s q x (eqb-true q (length s) h) .1)
+      go false h = rw (elsewhere (conditionReader L) s q x (eqb-false q (length s) h))
+
+-- what is one for some counts and not for fewer names a variable of the kind that was taken away
+narrowed : {A : Type 0} (b : Bool) (x y : Option A) (p : A → Bool) → ((a : A) → x ≡ some a → y ≡ cond (p a) none (some a)) → ((b && whether x (λ _. true)) && not (b && whether y (λ _. true))) ≡ (b && whether x p)
+narrowed false x y p h = refl
+narrowed true none y p h = refl
+narrowed true (some a) y p h = rw (h a refl) (go (p a))
+  where
+    go : (t : Bool) → not (whether (cond t none (some a)) (λ _. true)) ≡ t
+    go true = refl
+    go false = refl
+
+module _ (L : Lent) (s : List ℕ) where
+  pub has-entry : (conditionWhich (λ _. true) L s && not (conditionWhich (λ _. true) (unkept L) s)) ≡ conditionWhich (λ c. conditionNames c isAtEntry) L s
+  unfolding conditionWhich
+  has-entry = narrowed (sized 1 s) (parseCondition L s) (parseCondition (unkept L) s) (λ c. conditionNames c isAtEntry) (λ c e. entry-narrow L s e)
+
+  pub has-monitor : (conditionWhich (λ _. true) L s && not (conditionWhich (λ _. true) (unmonitored L) s)) ≡ conditionWhich (λ c. conditionNames c isMonitor) L s
+  unfolding conditionWhich
+  has-monitor = narrowed (sized 1 s) (parseCondition L s) (parseCondition (unmonitored L) s) (λ c. conditionNames c isMonitor) (λ c e. monitor-narrow L s e)
+
+  pub run-has-entry : (actionWhich (λ _. true) L s && not (actionWhich (λ _. true) (unkept L) s)) ≡ actionWhich (λ a. actionNames a isAtEntry) L s
+  unfolding actionWhich
+  run-has-entry = narrowed (sized 0 s) (parseAction L s) (parseAction (unkept L) s) (λ a. actionNames a isAtEntry) (λ a e. action-entry-narrow L s e)
+
+-- an action may be empty
+action-sized : (s : List ℕ) → length s ≤ longest → sized 0 s ≡ true
+action-sized s h = rw (le-leb 0 (length s) (omega arith), le-leb (length s) 64 h)
+
+action-long : (s : List ℕ) → longest < length s → sized 0 s ≡ false
+action-long s h = rw (le-leb 0 (length s) (omega arith), lt-leb (length s) 64 h)
+
+module _ (s : List ℕ) where
+  pub run-long : (L : Lent) → longest < length s → false ≡ actionWhich (λ _. true) L s
+  unfolding actionWhich
+  run-long L h = rw (action-long s h)
+
+  pub run-judged : (L : Lent) → length s ≤ longest → whether (parseAction L s) (λ _. true) ≡ actionWhich (λ _. true) L s
+  unfolding actionWhich
+  run-judged L h = rw (action-sized s h)
+
+  pub action-refused : (E : Environment) → longest < length s → refused 4 ≡ actionOutcome s E
+  unfolding actionOutcome
+  action-refused E h = rw (action-long s h)
+
+  pub action-performed : (E : Environment) → length s ≤ longest → runOutcome s E ≡ actionOutcome s E
+  unfolding actionOutcome
+  action-performed E h = rw (action-sized s h)

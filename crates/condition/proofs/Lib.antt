@@ -1,0 +1,9 @@
+-- The laws that the functions' proofs and the layers above cite.
+pub mod Answering
+pub mod Evaluating
+pub mod Naming
+pub mod Parsing
+pub mod Rows
+pub mod Running
+pub mod Walking
+pub mod Words

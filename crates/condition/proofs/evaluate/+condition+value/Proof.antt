@@ -1,0 +1,173 @@
+-- The cycle of `evaluate::condition` and `evaluate::value` meets its contracts: the remaining length falls at each call, and each
+-- operator's arm is a law of Evaluating. Assumes nothing.
+use Prim.Native.Nat.{ℕ, _-_, _<_}
+use native.Mathlib.Omega.{arith}
+use borrow.Author.Needs.{needs}
+use lib.ListN.{length}
+use Rattle.condition.proofs.Walking.{no-condition, no-value}
+use Rattle.condition.proofs.Evaluating.{as-judged, as-packed, condition-past, value-past, evaluates-true, evaluates-not, and-right, and-left, or-right, or-left, evaluates-less, evaluates-equal, evaluates-within, no-condition-there, evaluates-literal, evaluates-program, evaluates-monitor, evaluates-entry, evaluates-plus, evaluates-minus, choose-left, choose-right, no-value-there}
+use borrow.Fn.Kinds.{In}
+use borrow.Fn.PlainCycle.{Measures, is, falls, and}
+use Rattle.condition.proofs.evaluate.condition.Reads as condition
+use Rattle.condition.proofs.evaluate.condition.Kinds as condition-kinds
+use Rattle.condition.proofs.evaluate.+condition+value.Lts-condition as condition-lts
+use Rattle.condition.proofs.evaluate.value.Reads as value
+use Rattle.condition.proofs.evaluate.value.Kinds as value-kinds
+use Rattle.condition.proofs.evaluate.+condition+value.Lts-value as value-lts
+use Rattle.condition.proofs.evaluate.equal.Reads as equal-reads
+use Rattle.condition.proofs.evaluate.judged.Reads as judged-reads
+use Rattle.condition.proofs.evaluate.less.Reads as less-reads
+use Rattle.condition.proofs.evaluate.literal.Reads as literal-reads
+use Rattle.condition.proofs.evaluate.minus.Reads as minus-reads
+use Rattle.condition.proofs.evaluate.negate.Reads as negate-reads
+use Rattle.condition.proofs.evaluate.packed.Reads as packed-reads
+use Rattle.condition.proofs.evaluate.plus.Reads as plus-reads
+use Rattle.condition.proofs.evaluate.variable.Reads as variable-reads
+use Rattle.condition.proofs.evaluate.within.Reads as within-reads
+use Rattle.condition.proofs.evaluate.word_of.Reads as word-of-reads
+use Rattle.condition.proofs.skip.condition.Reads as condition-reads
+use Rattle.condition.proofs.skip.value.Reads as value-reads
+use Rattle.condition.proofs.evaluate.+condition+value.{statement}
+use Rattle.condition.proofs.evaluate.+condition+value.Tie.{close}
+
+abbrev μ-condition : Measures 8 condition-kinds.ps ℕ
+μ-condition κs a = length (a .0 .now .now) - a .1 .0
+
+abbrev μ-value : Measures 8 value-kinds.ps ℕ
+μ-value κs a = length (a .0 .now .now) - a .1 .0
+
+abbrev condition-at : ℕ → In 8 condition-kinds.ps
+condition-at t = and 8 condition-kinds.ps (is 8 condition-kinds.ps μ-condition t) condition.Pre
+
+abbrev condition-below : ℕ → In 8 condition-kinds.ps
+condition-below t =
+    and 8 condition-kinds.ps (falls 8 condition-kinds.ps _<_ μ-condition t) condition.Pre
+
+abbrev value-at : ℕ → In 8 value-kinds.ps
+value-at t = and 8 value-kinds.ps (is 8 value-kinds.ps μ-value t) value.Pre
+
+abbrev value-below : ℕ → In 8 value-kinds.ps
+value-below t = and 8 value-kinds.ps (falls 8 value-kinds.ps _<_ μ-value t) value.Pre
+
+pub +condition+value-spec : {M : Type 1} → statement M
++condition+value-spec = close μ-condition μ-value (λ t. condition-lts.spec (
+  judged-reads.Asked,
+  judged-reads.Learnt,
+  condition-below t,
+  condition.Post,
+  negate-reads.Asked,
+  negate-reads.Learnt,
+  condition-reads.Asked,
+  condition-reads.Learnt,
+  value-below t,
+  value.Post,
+  less-reads.Asked,
+  less-reads.Learnt,
+  equal-reads.Asked,
+  equal-reads.Learnt,
+  within-reads.Asked,
+  within-reads.Learnt,
+)
+    (condition-at t)
+    condition.Post
+    (λ c. search needs)
+    (λ c κs. omega arith)
+    (λ c. as-judged _ _ _ _ _ _ (c .judged .ensures) (condition-past _ _ _ (c .before .if1 .left) (c .before .before .pre .1 .1)))
+    (λ c. search needs)
+    (λ c. search needs)
+    (λ c κs. omega arith)
+    (λ c. search needs)
+    (λ c κs. omega arith)
+    (λ c κs. omega arith)
+    (λ c. search needs)
+    (λ c κs. omega arith)
+    (λ c κs. omega arith)
+    (λ c κs. omega arith)
+    (λ c κs. omega arith)
+    (λ c. search needs)
+    (λ c κs. omega arith)
+    (λ c κs. omega arith)
+    (λ c κs. omega arith)
+    (λ c κs. omega arith)
+    (λ c. search needs)
+    (λ c κs. omega arith)
+    (λ c κs. omega arith)
+    (λ c κs. omega arith)
+    (λ c. search needs)
+    (λ c κs. omega arith)
+    (λ c κs. omega arith)
+    (λ c κs. omega arith)
+    (λ c. search needs)
+    (λ c κs. omega arith)
+    (λ c κs. omega arith)
+    (λ c κs. omega arith)
+    (λ c κs. omega arith)
+    (λ c. search needs)
+    (λ c κs. omega arith)
+    (λ c. as-judged _ _ _ _ _ _ (c .judged2 .ensures) (evaluates-true _ _ _ (c .before .before .before .if1 .taken) (c .before .match .keys1)))
+    (λ c. as-judged _ _ _ _ _ _ (c .negate .ensures) (evaluates-not _ _ _ (c .before .before .before .before .if1 .taken) _ _ (c .before .before .match .keys2) (c .before .condition .ensures)))
+    (λ c. and-right _ _ _ (c .before .before .before .before .before .if1 .taken) _ _ _ (c .before .before .condition2 .ensures) _ (c .before .before .before .match .keys3) (c .before .if2 .taken) (c .condition3 .ensures))
+    (λ c. as-judged _ _ _ _ _ _ (c .judged3 .ensures) (and-left _ _ _ (c .before .before .before .before .before .before .if1 .taken) _ _ _ (c .before .before .before .condition2 .ensures) (c .before .before .before .before .match .keys3) (c .before .before .if2 .left) (c .before .condition4 .ensures)))
+    (λ c. as-judged _ _ _ _ _ _ (c .judged4 .ensures) (or-left _ _ _ (c .before .before .before .before .before .before .if1 .taken) _ _ _ (c .before .before .before .condition5 .ensures) (c .before .before .before .before .match .keys4) (c .before .before .if3 .taken) (c .before .condition6 .ensures)))
+    (λ c. or-right _ _ _ (c .before .before .before .before .before .if1 .taken) _ _ _ (c .before .before .condition5 .ensures) _ (c .before .before .before .match .keys4) (c .before .if3 .left) (c .condition7 .ensures))
+    (λ c. as-judged _ _ _ _ _ _ (c .less .ensures) (evaluates-less _ _ _ (c .before .before .before .before .before .if1 .taken) _ _ _ _ (c .before .before .value .ensures) (c .before .value2 .ensures) (c .before .before .before .match .keys5)))
+    (λ c. as-judged _ _ _ _ _ _ (c .equal .ensures) (evaluates-equal _ _ _ (c .before .before .before .before .before .if1 .taken) _ _ _ _ (c .before .before .value3 .ensures) (c .before .value4 .ensures) (c .before .before .before .match .keys6)))
+    (λ c. as-judged _ _ _ _ _ _ (c .within .ensures) (evaluates-within _ _ _ (c .before .before .before .before .before .before .if1 .taken) _ _ _ _ (c .before .before .before .value5 .ensures) (c .before .before .value6 .ensures) _ _ (c .before .before .before .before .match .keys7) (c .before .value7 .ensures)))
+    (λ c. as-judged _ _ _ _ _ _ (c .judged5 .ensures) (no-condition-there _ _ _ (c .before .before .before .if1 .taken) (no-condition _ (c .before .match .rest .0 .0 .0 .0 .0 .0 .1) (c .before .match .rest .0 .0 .0 .0 .0 .1) (c .before .match .rest .0 .0 .0 .0 .1) (c .before .match .rest .0 .0 .0 .1) (c .before .match .rest .0 .0 .1) (c .before .match .rest .0 .1) (c .before .match .rest .1)))))
+    λ t. value-lts.spec (
+      packed-reads.Asked,
+      packed-reads.Learnt,
+      literal-reads.Asked,
+      literal-reads.Learnt,
+      variable-reads.Asked,
+      variable-reads.Learnt,
+      value-below t,
+      value.Post,
+      plus-reads.Asked,
+      plus-reads.Learnt,
+      minus-reads.Asked,
+      minus-reads.Learnt,
+      condition-below t,
+      condition.Post,
+      value-reads.Asked,
+      value-reads.Learnt,
+      word-of-reads.Asked,
+      word-of-reads.Learnt,
+    )
+    (value-at t)
+    value.Post
+    (λ c. search needs)
+    (λ c κs. omega arith)
+    (λ c. as-packed _ _ _ _ _ _ (c .packed .ensures) (value-past _ _ _ (c .before .if1 .left) (c .before .before .pre .1 .1)))
+    (λ c. search needs)
+    (λ c κs. omega arith)
+    (λ c κs. omega arith)
+    (λ c κs. omega arith)
+    (λ c κs. omega arith)
+    (λ c. search needs)
+    (λ c κs. omega arith)
+    (λ c κs. omega arith)
+    (λ c κs. omega arith)
+    (λ c. search needs)
+    (λ c κs. omega arith)
+    (λ c κs. omega arith)
+    (λ c κs. omega arith)
+    (λ c. search needs)
+    (λ c κs. omega arith)
+    (λ c κs. omega arith)
+    (λ c κs. omega arith)
+    (λ c κs. omega arith)
+    (λ c κs. omega arith)
+    (λ c κs. omega arith)
+    (λ c κs. omega arith)
+    (λ c. search needs)
+    (λ c κs. omega arith)
+    (λ c. as-packed _ _ _ _ _ _ (c .literal .ensures) (evaluates-literal _ _ _ (c .before .before .before .if1 .taken) (c .before .match .keys1)))
+    (λ c. as-packed _ _ _ _ _ _ (c .variable .ensures) (evaluates-program _ _ _ (c .before .before .before .if1 .taken) (c .before .match .keys2)))
+    (λ c. as-packed _ _ _ _ _ _ (c .variable2 .ensures) (evaluates-monitor _ _ _ (c .before .before .before .if1 .taken) (c .before .match .keys3)))
+    (λ c. as-packed _ _ _ _ _ _ (c .variable3 .ensures) (evaluates-entry _ _ _ (c .before .before .before .if1 .taken) (c .before .match .keys4)))
+    (λ c. as-packed _ _ _ _ _ _ (c .plus .ensures) (evaluates-plus _ _ _ (c .before .before .before .before .before .if1 .taken) _ _ _ _ (c .before .before .value .ensures) (c .before .value2 .ensures) (c .before .before .before .match .keys5)))
+    (λ c. as-packed _ _ _ _ _ _ (c .minus .ensures) (evaluates-minus _ _ _ (c .before .before .before .before .before .if1 .taken) _ _ _ _ (c .before .before .value3 .ensures) (c .before .value4 .ensures) (c .before .before .before .match .keys6)))
+    (λ c. as-packed _ _ _ _ _ _ (rw (c .before .word-of .ensures) at (c .packed2 .ensures)) (choose-left _ _ _ (c .before .before .before .before .before .before .before .before .if1 .taken) _ _ _ _ (c .before .before .before .before .before .condition .ensures) _ (c .before .before .before .before .before .before .match .keys7) (c .before .before .before .before .if2 .taken) (c .before .before .before .value5 .ensures) (c .before .before .value6 .ensures)))
+    (λ c. choose-right _ _ _ (c .before .before .before .before .before .before .if1 .taken) _ _ _ _ (c .before .before .before .condition .ensures) _ (c .before .before .before .before .match .keys7) (c .before .before .if2 .left) (c .before .value7 .ensures) (c .value8 .ensures))
+    (λ c. as-packed _ _ _ _ _ _ (c .packed3 .ensures) (no-value-there _ _ _ (c .before .before .before .if1 .taken) (no-value _ (c .before .match .rest .0 .0 .0 .0 .0 .0 .1) (c .before .match .rest .0 .0 .0 .0 .0 .1) (c .before .match .rest .0 .0 .0 .0 .1) (c .before .match .rest .0 .0 .0 .1) (c .before .match .rest .0 .0 .1) (c .before .match .rest .0 .1) (c .before .match .rest .1))))

@@ -1,0 +1,16 @@
+-- `perform` meets its contract. Assumes nothing.
+use mathlib.Core.Path.{ap, _∙_}
+use borrow.Author.Needs.{needs}
+use Rattle.condition.specs.Answer.{actionPaper}
+use Rattle.condition.proofs.Answering.{action-refused, action-performed}
+use Rattle.condition.proofs.perform.Statement.{statement}
+use Rattle.condition.proofs.perform.Tie as tie
+
+returns : tie.Need-returns
+returns c = ap (actionPaper _ _) (action-refused _ _ (c .if1 .left))
+
+returns-2 : tie.Need-returns-2
+returns-2 c = c .run .ensures ∙ ap (actionPaper _ _) (action-performed _ _ (c .before .if1 .taken))
+
+pub perform-spec : {M : Type 1} → statement M
+perform-spec = tie.close (tie.spec returns (λ c κs. search needs) returns-2)

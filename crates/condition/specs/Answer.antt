@@ -1,0 +1,75 @@
+-- The answers of the crate's operations (document 01, "What each operation turns away").
+use mathlib.Core.Bool.{Bool, true, false, not, cond, _&&_}
+use mathlib.Core.Option.{Option, none, some}
+use mathlib.Core.List.{List, _++_}
+use Prim.Native.Nat.{ℕ}
+use lib.Dec.{leb}
+use lib.ListN.{length, take, drop}
+use Rattle.condition.specs.declared.Lent.{Lent}
+use Rattle.condition.specs.declared.ConditionAnswer.{ConditionAnswer}
+use Rattle.condition.specs.declared.ConditionAnswer.the-variants as condition
+use Rattle.condition.specs.declared.ValueAnswer.{ValueAnswer}
+use Rattle.condition.specs.declared.ValueAnswer.the-variants as value
+use Rattle.condition.specs.declared.ActionAnswer.{ActionAnswer}
+use Rattle.condition.specs.declared.ActionAnswer.the-variants as action
+use Rattle.condition.specs.declared.Performed.{Performed}
+use Rattle.condition.specs.Tree.{Variable, Condition, Value, Assignment, conditionNames, valueNames, actionNames}
+use Rattle.condition.specs.Parse.{parseCondition, parseValue, parseAction}
+use Rattle.condition.specs.Meaning.{Environment, environment, lent, holds, word, performed}
+
+-- What the paper answers: the number of a refusal, or what is given.
+pub data Outcome (A : Type 0) : Type 0 where
+  refused : ℕ → Outcome A
+  given : A → Outcome A
+
+-- "its length isn't 1-64": the most bytes of a condition, a value or an action
+abbrev pub longest : ℕ
+longest = 64
+
+abbrev pub sized : ℕ → List ℕ → Bool
+sized least s = leb least (length s) && leb (length s) longest
+
+-- "5 if the bytes aren't exactly one by the grammar or name a value that isn't lent. Otherwise it gives the value"
+abbrev pub judged : {A B : Type 0} → Option A → (A → B) → Outcome B
+judged none f = refused 5
+judged (some a) f = given (f a)
+
+-- "4 if its length isn't 1-64; then 5"
+unfoldable pub conditionOutcome : List ℕ → Environment → Outcome Bool
+conditionOutcome s E = cond (sized 1 s) (judged (parseCondition (lent E) s) (λ c. holds c E)) (refused 4)
+
+unfoldable pub valueOutcome : List ℕ → Environment → Outcome ℕ
+valueOutcome s E = cond (sized 1 s) (judged (parseValue (lent E) s) (λ e. word e E)) (refused 4)
+
+-- The same of an action, which may be empty: the monitor variables afterwards.
+unfoldable pub runOutcome : List ℕ → Environment → Outcome (List ℕ)
+runOutcome s E = judged (parseAction (lent E) s) (λ a. performed a E)
+
+unfoldable pub actionOutcome : List ℕ → Environment → Outcome (List ℕ)
+actionOutcome s E = cond (sized 0 s) (runOutcome s E) (refused 4)
+
+-- The paper's number and value for each case of the answers.
+abbrev pub conditionPaper : ConditionAnswer → Outcome Bool
+conditionPaper (condition.Is b) = given b
+conditionPaper (condition.Refused n) = refused n
+
+abbrev pub valuePaper : ValueAnswer → Outcome ℕ
+valuePaper (value.Is w) = given w
+valuePaper (value.Refused n) = refused n
+
+-- Of four variables the first are the action's: those it leaves come back, and on a refusal all of them.
+abbrev pub actionPaper : ℕ → List ℕ → Outcome (List ℕ) → Performed
+actionPaper count variables (refused n) = record { answer = action.Refused n; variables = variables }
+actionPaper count variables (given l) = record { answer = action.Done; variables = l ++ drop count variables }
+
+-- Whether there is one, and it passes a test.
+abbrev pub whether : {A : Type 0} → Option A → (A → Bool) → Bool
+whether none p = false
+whether (some a) p = p a
+
+-- "exactly one .. by the grammar" for so many variables, and what it names
+unfoldable pub conditionWhich : (Condition → Bool) → Lent → List ℕ → Bool
+conditionWhich p L s = sized 1 s && whether (parseCondition L s) p
+
+unfoldable pub actionWhich : (List Assignment → Bool) → Lent → List ℕ → Bool
+actionWhich p L s = sized 0 s && whether (parseAction L s) p

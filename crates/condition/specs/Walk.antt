@@ -1,0 +1,95 @@
+-- What the private functions that walk over the bytes promise. Places in the bytes stand for what is left of them.
+use mathlib.Core.Path.{_≡_}
+use mathlib.Core.Bool.{Bool, true, false, cond, _&&_}
+use mathlib.Core.List.{List}
+use Prim.Native.Nat.{ℕ, _+_, _-_, _/_, _%_, _^_, _≤_, _<_}
+use lib.Dec.{leb, ltb, eqb}
+use lib.ListN.{length, getD, set, drop}
+use Rattle.condition.specs.declared.Lent.{Lent}
+use Rattle.condition.specs.Word.{bigEndian}
+use Rattle.condition.specs.Tree.{Condition, Value, Assignment}
+use Rattle.condition.specs.Parse.{Parsed, malformed, parsed, Reader, conditionFrom, valueFrom, assignmentFrom}
+use Rattle.condition.specs.Meaning.{Environment, lent, holds, word}
+
+abbrev pub bit : Bool → ℕ
+bit true = 1
+bit false = 0
+
+abbrev pub lentOf : ℕ → ℕ → ℕ → Lent
+lentOf p m k = record { programs = p; monitors = m; kept = k }
+
+-- r is the place in s behind what was parsed, or one past the end where it is malformed
+abbrev pub Ends : {A : Type 0} → List ℕ → ℕ → Parsed A → Type 0
+Ends s r malformed = r ≡ length s + 1
+Ends s r (parsed a rest) = (drop r s ≡ rest) × (r ≤ length s)
+
+-- r is where what a reader finds at a place of s ends, for any depth that is enough
+pub record Skips {A : Type 0} (R : ℕ → Reader A) (s : List ℕ) (at r : ℕ) : Type 0 where
+  pub low : at ≤ r
+  pub high : r ≤ length s + 1
+  pub ends : (k : ℕ) → length s - at ≤ k → Ends s r (R k (drop at s))
+
+abbrev pub conditionReader : Lent → ℕ → Reader Condition
+conditionReader L k s = conditionFrom k L s
+
+abbrev pub valueReader : Lent → ℕ → Reader Value
+valueReader L k s = valueFrom k L s
+
+-- what holds of the tree that was parsed, if there is one
+abbrev pub Gives : {A : Type 0} → (A → Type 0) → Parsed A → Type 0
+Gives P malformed = Unit {0}
+Gives P (parsed a rest) = P a
+
+-- w is its meaning
+abbrev pub Means : {A : Type 0} → (A → ℕ) → ℕ → Parsed A → Type 0
+Means f w p = Gives (λ a. w ≡ f a) p
+
+-- place is where it ends, and number its meaning
+pub record Evaluates {A : Type 0} (R : ℕ → Reader A) (f : A → ℕ) (s : List ℕ) (at place number : ℕ) : Type 0 where
+  pub skips : Skips R s at place
+  pub means : (k : ℕ) → length s - at ≤ k → Means f number (R k (drop at s))
+
+abbrev pub conditionBit : Environment → Condition → ℕ
+conditionBit E c = bit (holds c E)
+
+abbrev pub valueWord : Environment → Value → ℕ
+valueWord E e = word e E
+
+-- a place and a truth, a place and a word, in one number
+pub record Judged (next : ℕ) (b : Bool) (r : ℕ) : Type 0 where
+  pub place : r / 2 ≡ next
+  pub truth : r % 2 ≡ bit b
+
+pub record Packed (next w r : ℕ) : Type 0 where
+  pub place : r / 2 ^ 32 ≡ next
+  pub value : r % 2 ^ 32 ≡ w
+
+-- Where the four bytes, and the number of a variable below a limit, that follow the operator at a place end.
+abbrev pub literalEnd : List ℕ → ℕ → ℕ
+literalEnd s at = cond (leb (at + 5) (length s)) (at + 5) (length s + 1)
+
+abbrev pub variableEnd : List ℕ → ℕ → ℕ → ℕ
+variableEnd s at limit = cond (ltb (at + 1) (length s)) (cond (ltb (getD s (at + 1) 0) limit) (at + 2) (length s + 1)) (length s + 1)
+
+-- The words there, 0 where there are none.
+abbrev pub literalAt : List ℕ → ℕ → ℕ
+literalAt s at = cond (leb (at + 5) (length s)) (bigEndian (getD s (at + 1) 0) (getD s (at + 2) 0) (getD s (at + 3) 0) (getD s (at + 4) 0)) 0
+
+abbrev pub variableAt : List ℕ → ℕ → List ℕ → ℕ
+variableAt s at values = cond (ltb (at + 1) (length s)) (cond (ltb (getD s (at + 1) 0) (length values)) (getD values (getD s (at + 1) 0) 0) 0) 0
+
+abbrev pub negated : ℕ → Bool
+negated n = eqb n 0
+
+-- r is where the assignment at a place of s ends; its value takes a level less than the bytes there
+pub record SkipsAssignment (L : Lent) (s : List ℕ) (at r : ℕ) : Type 0 where
+  pub low : at + 1 ≤ r
+  pub high : r ≤ length s + 1
+  pub ends : (k : ℕ) → length s - (at + 1) ≤ k → Ends s r (assignmentFrom k L (drop at s))
+
+-- after is what the assignment at a place makes of the first variables of before
+pub record Assigns (E : Environment) (s : List ℕ) (at r count : ℕ) (before after : List ℕ) : Type 0 where
+  pub skips : SkipsAssignment (lent E) s at r
+  pub long : length after ≡ length before
+  pub rest : drop count after ≡ drop count before
+  pub means : (k : ℕ) → length s - (at + 1) ≤ k → Gives (λ a. (after ≡ set before (a .target) (word (a .source) E)) × (a .target < count)) (assignmentFrom k (lent E) (drop at s))

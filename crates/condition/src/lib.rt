@@ -1,0 +1,160 @@
+// Conditions, values and actions over operator-first bytes: judging them, evaluating them, carrying
+// actions out. Every operation here answers for all bytes and all lent values.
+
+ghost use mathlib.Core.Path.{_≡_};
+ghost use mathlib.Core.Bool.{true};
+ghost use lib.ListN.{take};
+ghost use Rattle.condition.specs.Tree.{conditionNames, actionNames, isMonitor, isAtEntry};
+ghost use Rattle.condition.specs.Meaning.{environment};
+ghost use Rattle.condition.specs.Answer.{conditionPaper, conditionOutcome, valuePaper, valueOutcome, actionPaper, actionOutcome, conditionWhich, actionWhich};
+
+mod action;
+mod evaluate;
+mod skip;
+mod word;
+
+// The most bytes of a condition, a value or an action.
+pub const LONGEST: usize = 64;
+
+// How many values are lent of each kind: present program values, monitor variables, program values
+// kept at entry.
+pub struct Lent {
+    pub programs: usize,
+    pub monitors: usize,
+    pub kept: usize,
+}
+
+pub enum ConditionAnswer {
+    Is(bool),
+    Refused(u8),
+}
+
+pub enum ValueAnswer {
+    Is(u32),
+    Refused(u8),
+}
+
+pub enum ActionAnswer {
+    Done,
+    Refused(u8),
+}
+
+pub struct Performed {
+    pub answer: ActionAnswer,
+    pub variables: [u32; 4],
+}
+
+// The first `count` values, or all where there are fewer.
+pub fn front(values: &[u32], count: usize) -> &[u32]
+    ensures { λ r. ⌜ now r ≡ take count (now (values .entry)) ⌝ }
+{
+    if count < values.len() {
+        &values[..count]
+    } else {
+        values
+    }
+}
+
+// Evaluates a condition on its own: 4 for its length, 5 for bytes that are not exactly one, or its
+// truth.
+pub fn evaluate_condition(
+    s: &[u8],
+    program: &[u32],
+    monitor: &[u32],
+    kept: &[u32],
+) -> ConditionAnswer
+    ensures { λ r. ⌜ conditionPaper r ≡ conditionOutcome (now (s .entry)) (environment (now (program .entry)) (now (monitor .entry)) (now (kept .entry))) ⌝ }
+{
+    if (1 <= s.len()) & (s.len() <= LONGEST) {} else {
+        return ConditionAnswer::Refused(4);
+    }
+    let r = evaluate::condition(&s, 0, &program, &monitor, &kept);
+    if r / 2 == s.len() {
+        ConditionAnswer::Is(r % 2 == 1)
+    } else {
+        ConditionAnswer::Refused(5)
+    }
+}
+
+// Evaluates a value on its own, with the same refusals: its word.
+pub fn evaluate_value(s: &[u8], program: &[u32], monitor: &[u32], kept: &[u32]) -> ValueAnswer
+    ensures { λ r. ⌜ valuePaper r ≡ valueOutcome (now (s .entry)) (environment (now (program .entry)) (now (monitor .entry)) (now (kept .entry))) ⌝ }
+{
+    if (1 <= s.len()) & (s.len() <= LONGEST) {} else {
+        return ValueAnswer::Refused(4);
+    }
+    let r = evaluate::value(&s, 0, &program, &monitor, &kept);
+    if r / 4294967296 == s.len() {
+        ValueAnswer::Is((r % 4294967296) as u32)
+    } else {
+        ValueAnswer::Refused(5)
+    }
+}
+
+// Carries an action out on the first `count` of four monitor variables. A refusal changes none.
+pub fn perform(
+    s: &[u8],
+    program: &[u32],
+    variables: [u32; 4],
+    count: usize,
+    kept: &[u32],
+) -> Performed
+    ensures { λ r. ⌜ r ≡ actionPaper count variables (actionOutcome (now (s .entry)) (environment (now (program .entry)) (take count variables) (now (kept .entry)))) ⌝ }
+{
+    if s.len() <= LONGEST {} else {
+        return Performed {
+            answer: ActionAnswer::Refused(4),
+            variables,
+        };
+    }
+    action::run(s, program, variables, count, kept)
+}
+
+// Whether the bytes are exactly one condition for so many variables.
+pub fn is_condition(s: &[u8], lent: Lent) -> bool
+    ensures { λ r. ⌜ r ≡ conditionWhich (λ _. true) lent (now (s .entry)) ⌝ }
+{
+    if (1 <= s.len()) & (s.len() <= LONGEST) {} else {
+        return false;
+    }
+    let end = skip::condition(&s, 0, lent.programs, lent.monitors, lent.kept);
+    end == s.len()
+}
+
+// Whether they are one that has a value-at-entry.
+pub fn condition_has_entry(s: &[u8], lent: Lent) -> bool
+    ensures { λ r. ⌜ r ≡ conditionWhich (λ c. conditionNames c isAtEntry) lent (now (s .entry)) ⌝ }
+{
+    is_condition(s, lent) & !is_condition(s, Lent { kept: 0, ..lent })
+}
+
+// Whether they are one that has a monitor variable.
+pub fn condition_has_monitor(s: &[u8], lent: Lent) -> bool
+    ensures { λ r. ⌜ r ≡ conditionWhich (λ c. conditionNames c isMonitor) lent (now (s .entry)) ⌝ }
+{
+    is_condition(s, lent)
+        & !is_condition(
+            s,
+            Lent {
+                monitors: 0,
+                ..lent
+            },
+        )
+}
+
+// Whether the bytes are exactly a run of assignments for so many variables.
+pub fn is_action(s: &[u8], lent: Lent) -> bool
+    ensures { λ r. ⌜ r ≡ actionWhich (λ _. true) lent (now (s .entry)) ⌝ }
+{
+    if s.len() <= LONGEST {} else {
+        return false;
+    }
+    action::is_run(s, lent)
+}
+
+// Whether they are one that has a value-at-entry.
+pub fn action_has_entry(s: &[u8], lent: Lent) -> bool
+    ensures { λ r. ⌜ r ≡ actionWhich (λ a. actionNames a isAtEntry) lent (now (s .entry)) ⌝ }
+{
+    is_action(s, lent) & !is_action(s, Lent { kept: 0, ..lent })
+}
