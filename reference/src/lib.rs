@@ -1,0 +1,12 @@
+//! A second implementation of document 01 (rule sheets, call logs, networks), written from the
+//! papers alone. It decodes bytes into owned structures and evaluates trees.
+
+pub mod condition_cases;
+pub mod expr;
+pub mod frames;
+pub mod programs;
+pub mod random;
+pub mod random_expr;
+pub mod refusal;
+
+pub use refusal::Refusal;
