@@ -6,6 +6,7 @@ pub mod draft;
 pub mod engine;
 pub mod expr;
 pub mod frames;
+pub mod generate;
 pub mod machine;
 pub mod network;
 pub mod program;
@@ -16,6 +17,7 @@ pub mod refusal;
 pub mod run;
 pub mod sheet;
 pub mod state;
+pub mod tally;
 pub mod translate;
 
 pub use refusal::Refusal;
