@@ -227,7 +227,16 @@ fn ends_of_range(rows: &mut Rows) {
 /// Both sides of the edge of `within`, also where the ticks pass through zero.
 fn within_edges(rows: &mut Rows) {
     let expression = op(6, &[P0, P1, P2]);
-    let spans: [u32; 8] = [0, 1, 2, 1000, 0x7FFF_FFFF, 0x8000_0000, 0xFFFF_FFFE, 0xFFFF_FFFF];
+    let spans: [u32; 8] = [
+        0,
+        1,
+        2,
+        1000,
+        0x7FFF_FFFF,
+        0x8000_0000,
+        0xFFFF_FFFE,
+        0xFFFF_FFFF,
+    ];
     for start in [0, -1, i32::MIN, i32::MAX] {
         for k in spans {
             for past in [-1i64, 0, 1] {
@@ -258,13 +267,23 @@ fn lengths(rows: &mut Rows) {
         rows.add(Kind::Condition, &bytes, NOTHING, REFUSED_4);
     }
     for length in [65, 257] {
-        rows.add(Kind::JudgeCondition, &nots(length - 1, TRUE), NOTHING, "000");
+        rows.add(
+            Kind::JudgeCondition,
+            &nots(length - 1, TRUE),
+            NOTHING,
+            "000",
+        );
     }
     rows.add(Kind::Condition, &[0; 257], NOTHING, REFUSED_4);
     let mut long = number(7);
     long.resize(261, 0);
     rows.add(Kind::Value, &long, NOTHING, REFUSED_4);
-    rows.add(Kind::Value, &op(22, &[&nots(59, TRUE), P0, M0]), ONE, REFUSED_4);
+    rows.add(
+        Kind::Value,
+        &op(22, &[&nots(59, TRUE), P0, M0]),
+        ONE,
+        REFUSED_4,
+    );
     rows.add(Kind::Condition, &[255; 65], NOTHING, REFUSED_4);
     rows.no_condition(&[1; 64], NOTHING);
     rows.no_condition(&[0; 64], NOTHING);
@@ -286,6 +305,16 @@ fn right_deep(operator: u8, count: usize, leaf: &[u8]) -> Vec<u8> {
     bytes
 }
 
+/// `choose` nested in its first value (taken), and in its second (taken).
+fn deep_choices(levels: usize) -> [Vec<u8>; 2] {
+    let (mut first, mut second) = (E0.to_vec(), E0.to_vec());
+    for _ in 0..levels {
+        first = op(22, &[TRUE, &first, P0]);
+        second = op(22, &[FALSE, P0, &second]);
+    }
+    [first, second]
+}
+
 /// Conditions and values in turn: less(choose(less(choose(..., P0, M0), P0), ...
 fn in_turn(levels: usize) -> Vec<u8> {
     let mut bytes = TRUE.to_vec();
@@ -298,10 +327,18 @@ fn in_turn(levels: usize) -> Vec<u8> {
 
 fn depth(rows: &mut Rows) {
     for operator in [2, 3] {
-        for bytes in [left_deep(operator, 31, TRUE), right_deep(operator, 31, TRUE)] {
+        for bytes in [
+            left_deep(operator, 31, TRUE),
+            right_deep(operator, 31, TRUE),
+        ] {
             rows.condition(&bytes, NOTHING, true);
             rows.condition(&op(1, &[&bytes]), NOTHING, false);
-            rows.add(Kind::Condition, &op(1, &[&op(1, &[&bytes])]), NOTHING, REFUSED_4);
+            rows.add(
+                Kind::Condition,
+                &op(1, &[&op(1, &[&bytes])]),
+                NOTHING,
+                REFUSED_4,
+            );
         }
     }
     for bytes in [left_deep(20, 20, P0), right_deep(20, 20, P0)] {
@@ -312,6 +349,14 @@ fn depth(rows: &mut Rows) {
     rows.value(&left_deep(21, 20, P0), ONE, -19 * 11);
     rows.value(&right_deep(21, 20, P0), ONE, 11);
     rows.value(&right_deep(21, 19, P0), ONE, 0);
+    for bytes in deep_choices(12) {
+        rows.value(&bytes, ONE, 33);
+        rows.no_value(&bytes[..bytes.len() - 1], ONE);
+        rows.add(Kind::Action, &op(0, &[&bytes]), ONE, "done 33");
+        rows.add(Kind::JudgeAction, &op(0, &[&bytes]), ONE, "11");
+    }
+    let deep_action = op(0, &[&op(22, &[&nots(57, TRUE), P0, E0])]);
+    rows.add(Kind::Action, &deep_action, ONE, "done 33");
     for levels in 1..=7 {
         // 11 < 22, and then always 11 is chosen again.
         rows.condition(&in_turn(levels), ONE, true);
@@ -366,7 +411,13 @@ fn wrong_operands(rows: &mut Rows) {
         for place in 0..sorts.len() {
             for replacement in [wrong(sorts[place]), &[], &[9]] {
                 let operands: Vec<&[u8]> = (0..sorts.len())
-                    .map(|i| if i == place { replacement } else { right(sorts[i]) })
+                    .map(|i| {
+                        if i == place {
+                            replacement
+                        } else {
+                            right(sorts[i])
+                        }
+                    })
                     .collect();
                 rows.add(sort_of(operator), &op(operator, &operands), ONE, REFUSED_5);
             }
@@ -420,7 +471,11 @@ fn many_lent(rows: &mut Rows) {
         let mut lent: [&[i32]; 3] = [&[5], &[6], &[7]];
         lent[kind] = &many;
         let values = Values(lent[0], lent[1], lent[2]);
-        rows.value(&op(20, &[&[operator, 254], &[operator, 128]]), values, 1254 + 1128);
+        rows.value(
+            &op(20, &[&[operator, 254], &[operator, 128]]),
+            values,
+            1254 + 1128,
+        );
         rows.no_value(&[operator, 255], values);
     }
 }
@@ -529,25 +584,48 @@ fn actions(rows: &mut Rows) {
     done(&op(0, &[M0]), " 10 20 30 40");
     // Later assignments see earlier ones: a try at swapping, a chain, and adding twice.
     done(&joined(&[&[0, 18, 1], &[1, 18, 0]]), " 20 20 30 40");
-    done(&joined(&[&[1, 18, 0], &[2, 18, 1], &[3, 18, 2]]), " 10 10 10 10");
-    done(&joined(&[&[3, 18, 2], &[2, 18, 1], &[1, 18, 0]]), " 10 10 20 30");
+    done(
+        &joined(&[&[1, 18, 0], &[2, 18, 1], &[3, 18, 2]]),
+        " 10 10 10 10",
+    );
+    done(
+        &joined(&[&[3, 18, 2], &[2, 18, 1], &[1, 18, 0]]),
+        " 10 10 20 30",
+    );
     let again = op(0, &[&op(20, &[M0, M0])]);
     done(&again.repeat(5), " 320 20 30 40");
     done(&joined(&[&op(0, &[P0]), &op(0, &[P1])]), " 6 20 30 40");
     let chosen = op(2, &[&op(22, &[&op(4, &[M0, M1]), P0, P1])]);
     done(&chosen, " 10 20 5 40");
     done(&joined(&[&[0, 18, 3], &chosen]), " 40 20 6 40");
-    done(&op(3, &[&op(20, &[&number(i32::MAX), P0])]), " 10 20 30 -2147483644");
+    done(
+        &op(3, &[&op(20, &[&number(i32::MAX), P0])]),
+        " 10 20 30 -2147483644",
+    );
 }
 
 fn bad_actions(rows: &mut Rows) {
     let good = [0, 17, 0];
-    for bad in [&[0u8][..], &[0, 17], &[1, 17, 0], &[4, 17, 0], &[255, 17, 0], &[17], &[0, 0]] {
+    for bad in [
+        &[0u8][..],
+        &[0, 17],
+        &[1, 17, 0],
+        &[4, 17, 0],
+        &[255, 17, 0],
+        &[17],
+        &[0, 0],
+    ] {
         rows.no_action(bad, ONE);
         rows.no_action(&joined(&[&good, bad]), ONE);
         rows.no_action(&joined(&[&good, &good, &good, bad]), ONE);
     }
-    for bad in [&[0u8, 17, 1][..], &[0, 18, 1], &[0, 19, 1], &[0, 16, 0, 0, 0], &[0, 20, 17, 0]] {
+    for bad in [
+        &[0u8, 17, 1][..],
+        &[0, 18, 1],
+        &[0, 19, 1],
+        &[0, 16, 0, 0, 0],
+        &[0, 20, 17, 0],
+    ] {
         rows.no_action(bad, ONE);
         rows.no_action(&joined(&[&good, bad]), ONE);
     }
@@ -654,7 +732,9 @@ fn random_frame(random: &mut Random) -> Frame {
 
 fn random_rows() -> Vec<Row> {
     let mut random = Random::new(SEED);
-    let mut frames: Vec<Frame> = (0..WELL_FORMED).map(|_| random_frame(&mut random)).collect();
+    let mut frames: Vec<Frame> = (0..WELL_FORMED)
+        .map(|_| random_frame(&mut random))
+        .collect();
     for _ in 0..DAMAGED {
         let mut frame = random_frame(&mut random);
         for _ in 0..random.between(1, 3) {

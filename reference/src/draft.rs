@@ -85,11 +85,13 @@ impl SheetDraft {
     /// Adds a transition: states, what triggers it, its condition and action.
     pub fn transition(&mut self, from: u8, to: u8, on: (Kind, u8), condition: u8, action: u8) {
         let (kind, unit) = on;
-        self.transitions.push([from, kind.byte(), unit, condition, action, to]);
+        self.transitions
+            .push([from, kind.byte(), unit, condition, action, to]);
     }
 
     pub fn triple(&mut self, state: u8, unit: u8, precondition: u8, postcondition: u8) {
-        self.triples.push([state, unit, precondition, postcondition]);
+        self.triples
+            .push([state, unit, precondition, postcondition]);
     }
 
     pub fn bytes(&self) -> Vec<u8> {
@@ -113,7 +115,9 @@ pub struct NetworkDraft {
 
 impl NetworkDraft {
     pub fn bytes(&self) -> Vec<u8> {
-        let mut out = self.front.write(self.transitions.len(), self.templates.len());
+        let mut out = self
+            .front
+            .write(self.transitions.len(), self.templates.len());
         for (transition, pairs) in &self.transitions {
             out.extend(transition);
             out.push(pairs.len() as u8);

@@ -203,9 +203,8 @@ impl Engine for Sheet {
             }
             Taken::Exit(place) => self.disarm(&mut next, place, event),
         };
-        let fits = |t: &&Transition| {
-            is_enabled(t, &state.common, taken.kind(), event, &self.machine)
-        };
+        let fits =
+            |t: &&Transition| is_enabled(t, &state.common, taken.kind(), event, &self.machine);
         let transition = self.transitions.iter().find(fits);
         next.common.finish(transition, event, &self.machine);
         next.common.judge(header, failing);
@@ -281,7 +280,13 @@ impl Engine for Network {
             Taken::Exit(place) => self.end_checkers(&mut next, place, event),
         };
         let creating = self.transitions.iter().find(|c| {
-            is_enabled(&c.transition, &state.common, taken.kind(), event, &self.machine)
+            is_enabled(
+                &c.transition,
+                &state.common,
+                taken.kind(),
+                event,
+                &self.machine,
+            )
         });
         for pair in creating.iter().flat_map(|c| &c.pairs) {
             if precondition_holds(pair.condition, event, &self.machine) {
@@ -303,8 +308,10 @@ impl Network {
     /// Closes the call, ends its checkers and gives the lowest template that fails.
     fn end_checkers(&self, next: &mut NetworkState, place: usize, event: &Event) -> Option<u8> {
         let call = next.common.leave(place);
-        let (ending, staying): (Vec<Checker>, Vec<Checker>) =
-            next.living_checkers().iter().partition(|c| c.call == event.call);
+        let (ending, staying): (Vec<Checker>, Vec<Checker>) = next
+            .living_checkers()
+            .iter()
+            .partition(|c| c.call == event.call);
         next.set_checkers(&staying);
         let fails = |checker: &&Checker| {
             let template = self.templates.get(usize::from(checker.template));
@@ -352,11 +359,7 @@ pub fn fresh_network_state(network: &[u8]) -> (NetworkState, Option<Refusal>) {
 }
 
 /// One event on a sheet's bytes: refusals 1-15.
-pub fn sheet_event(
-    sheet: &[u8],
-    state: &SheetState,
-    event: &Event,
-) -> Result<SheetState, Refusal> {
+pub fn sheet_event(sheet: &[u8], state: &SheetState, event: &Event) -> Result<SheetState, Refusal> {
     Sheet::read(sheet)?.event(state, event)
 }
 

@@ -154,7 +154,7 @@ fn add_actions(random: &mut Random, size: Size, draft: &mut SheetDraft) {
 /// The action with assignments of variable 0 to itself, of 7 and 3 bytes, up to 64 bytes.
 fn filled_action(action: &Action) -> Vec<u8> {
     let mut bytes = action.bytes();
-    while (LONGEST - bytes.len()) % 3 != 0 {
+    while !(LONGEST - bytes.len()).is_multiple_of(3) {
         bytes.extend([0, 22, 0, 18, 0, 18, 0]);
     }
     while bytes.len() < LONGEST {
@@ -207,7 +207,11 @@ fn add_triples(random: &mut Random, size: Size, pool: &Pool, draft: &mut SheetDr
     for _ in 0..40 * wanted {
         let state = near(random, draft.front.states);
         let unit = near(random, draft.front.units);
-        let together = draft.triples.iter().filter(|t| t[..2] == [state, unit]).count();
+        let together = draft
+            .triples
+            .iter()
+            .filter(|t| t[..2] == [state, unit])
+            .count();
         if draft.triples.len() < wanted && together < 4 {
             let precondition = random.pick(&pool.preconditions);
             draft.triple(state, unit, precondition, random.pick(&pool.postconditions));
@@ -241,7 +245,9 @@ fn any_pairs(
     templates: &[[u8; 2]],
 ) -> Vec<[u8; 2]> {
     let unit = transition[2];
-    let fitting = (0u8..).zip(templates).filter(|(_, template)| template[0] == unit);
+    let fitting = (0u8..)
+        .zip(templates)
+        .filter(|(_, template)| template[0] == unit);
     let fitting: Vec<u8> = fitting.map(|(number, _)| number).collect();
     if transition[1] != Kind::Entry.byte() || fitting.is_empty() {
         return Vec::new();
@@ -309,7 +315,7 @@ fn values(random: &mut Random, shape: Shape) -> Vec<i32> {
 fn free_number(random: &mut Random, open: &[(u16, u8)]) -> u16 {
     loop {
         let number = match random.below(8) {
-            0 => random.next() as u16,
+            0 => random.number() as u16,
             _ => random.below(40) as u16,
         };
         if open.iter().all(|(used, _)| *used != number) {
@@ -377,7 +383,11 @@ pub fn break_sheet(random: &mut Random, draft: &SheetDraft) -> Vec<u8> {
         2 => draft.front.version = random.pick(&[0, 2, 3, 255]),
         3 => break_header(random, &mut draft),
         4 => return break_tables(random, &draft),
-        5 => break_grammar(random, &mut draft.front.conditions, &mut draft.front.actions),
+        5 => break_grammar(
+            random,
+            &mut draft.front.conditions,
+            &mut draft.front.actions,
+        ),
         6 => break_reference(random, &mut draft),
         7 => break_role(random, &mut draft),
         _ => break_crowding(random, &mut draft),
@@ -447,7 +457,14 @@ fn break_grammar(random: &mut Random, conditions: &mut [Vec<u8>], actions: &mut 
 fn break_reference(random: &mut Random, draft: &mut SheetDraft) {
     let front = &draft.front;
     let (conditions, actions) = (front.conditions.len() as u8, front.actions.len() as u8);
-    let transition_limits = [front.states, 2, front.units, conditions, actions, front.states];
+    let transition_limits = [
+        front.states,
+        2,
+        front.units,
+        conditions,
+        actions,
+        front.states,
+    ];
     let triple_limits = [front.states, front.units, conditions, conditions];
     let beyond = |random: &mut Random, limit: u8| random.pick(&[limit, 255]);
     if draft.transitions.is_empty() || (!draft.triples.is_empty() && random.chance(1, 2)) {
@@ -534,9 +551,15 @@ pub fn break_network(random: &mut Random, draft: &NetworkDraft) -> Vec<u8> {
 /// A pair, a template or a guard whose condition holds what its role does not allow.
 fn break_network_role(random: &mut Random, draft: &mut NetworkDraft) {
     let operator = random.pick(&[18, 19]);
-    draft.front.conditions.push(vec![5, operator, 0, operator, 0]);
+    draft
+        .front
+        .conditions
+        .push(vec![5, operator, 0, operator, 0]);
     let wrong = (draft.front.conditions.len() - 1) as u8;
-    let entry = draft.transitions.iter_mut().find(|(t, pairs)| t[1] == 0 && !pairs.is_empty());
+    let entry = draft
+        .transitions
+        .iter_mut()
+        .find(|(t, pairs)| t[1] == 0 && !pairs.is_empty());
     match (random.below(3), entry) {
         (0, Some((_, pairs))) => pairs[0][0] = wrong,
         (1, Some((transition, _))) => transition[3] = wrong,

@@ -46,7 +46,14 @@ pub struct Transition {
 impl Transition {
     pub fn bytes(&self) -> [u8; 6] {
         let kind = self.kind.byte();
-        [self.from, kind, self.unit, self.condition, self.action, self.to]
+        [
+            self.from,
+            kind,
+            self.unit,
+            self.condition,
+            self.action,
+            self.to,
+        ]
     }
 }
 
@@ -84,7 +91,9 @@ impl Machine {
     /// The version, the counts and the tables that sheets and networks share.
     pub fn write(&self, version: u8, transitions: usize, last: usize) -> Vec<u8> {
         let h = &self.header;
-        let mut out = vec![0, 0, version, h.states, h.units, h.program, h.monitor, h.start];
+        let mut out = vec![
+            0, 0, version, h.states, h.units, h.program, h.monitor, h.start,
+        ];
         out.extend(h.bad.to_be_bytes());
         for count in [self.conditions.len(), self.actions.len(), transitions, last] {
             out.push(count as u8);

@@ -145,7 +145,9 @@ fn read_pair(
     templates: &[Template],
 ) -> Result<Pair, Refusal> {
     below(condition, machine.conditions.len())?;
-    let named = templates.get(usize::from(template)).ok_or(Refusal::Reference)?;
+    let named = templates
+        .get(usize::from(template))
+        .ok_or(Refusal::Reference)?;
     if named.unit != unit {
         return Err(Refusal::Reference);
     }

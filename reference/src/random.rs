@@ -9,7 +9,7 @@ impl Random {
         Random { state: seed }
     }
 
-    pub fn next(&mut self) -> u64 {
+    pub fn number(&mut self) -> u64 {
         self.state = self.state.wrapping_add(0x9E37_79B9_7F4A_7C15);
         let mut z = self.state;
         z = (z ^ (z >> 30)).wrapping_mul(0xBF58_476D_1CE4_E5B9);
@@ -22,7 +22,7 @@ impl Random {
         if limit == 0 {
             return 0;
         }
-        ((self.next() >> 16) % limit as u64) as usize
+        ((self.number() >> 16) % limit as u64) as usize
     }
 
     /// A number from `low` to `high`, both included.
@@ -52,7 +52,7 @@ impl Random {
         match self.below(10) {
             0..=5 => self.below(5) as i32 - 1,
             6..=7 => self.pick(&[i32::MIN, i32::MIN + 1, -1, 0, 1, i32::MAX - 1, i32::MAX]),
-            _ => self.next() as u32 as i32,
+            _ => self.number() as u32 as i32,
         }
     }
 

@@ -12,7 +12,11 @@ const LOG_HEADER_LENGTH: usize = 6;
 #[derive(Clone, Copy, Debug, PartialEq, Eq)]
 pub enum Outcome {
     Violated(Verdict),
-    Clean { events: u32, state: u8, open: u8 },
+    Clean {
+        events: u32,
+        state: u8,
+        open: u8,
+    },
     /// The sheet, the network or the log as a whole was refused.
     Refused(Refusal),
     /// The event of this record was refused, counted from 1.
@@ -25,7 +29,11 @@ impl fmt::Display for Outcome {
             Outcome::Violated(verdict) => {
                 let state = or_dash(verdict.cause.state());
                 let triple = or_dash(verdict.cause.triple());
-                write!(f, "violated {} state {state} triple {triple}", verdict.position)
+                write!(
+                    f,
+                    "violated {} state {state} triple {triple}",
+                    verdict.position
+                )
             }
             Outcome::Clean {
                 events,
@@ -79,7 +87,10 @@ pub fn read_log(log: &[u8], program: u8) -> Result<Vec<Record>, Refusal> {
     if records.len() % record_length != 0 {
         return Err(Refusal::LogRecords);
     }
-    Ok(records.chunks_exact(record_length).map(read_record).collect())
+    Ok(records
+        .chunks_exact(record_length)
+        .map(read_record)
+        .collect())
 }
 
 fn read_record(bytes: &[u8]) -> Record {

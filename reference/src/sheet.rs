@@ -40,7 +40,9 @@ impl Sheet {
         let triples = machine::times(counts.last, || cutter.take(4))?;
         cutter.end()?;
         let machine = machine::read_expressions(header, front)?;
-        let transitions = transitions.iter().map(|raw| machine::read_transition(raw, &machine));
+        let transitions = transitions
+            .iter()
+            .map(|raw| machine::read_transition(raw, &machine));
         let transitions = transitions.collect::<Result<_, _>>()?;
         let triples = triples.iter().map(|raw| read_triple(raw, &machine));
         let triples = triples.collect::<Result<_, _>>()?;
@@ -78,8 +80,14 @@ impl Sheet {
 
     fn roles(&self) -> Vec<(u8, Role)> {
         let guards = self.transitions.iter().map(|t| (t.condition, Role::Guard));
-        let pre = self.triples.iter().map(|t| (t.precondition, Role::Precondition));
-        let post = self.triples.iter().map(|t| (t.postcondition, Role::Postcondition));
+        let pre = self
+            .triples
+            .iter()
+            .map(|t| (t.precondition, Role::Precondition));
+        let post = self
+            .triples
+            .iter()
+            .map(|t| (t.postcondition, Role::Postcondition));
         guards.chain(pre).chain(post).collect()
     }
 

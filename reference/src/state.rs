@@ -16,7 +16,10 @@ pub enum Cause {
     State(u8),
     /// A triple on a sheet, a template on a network.
     Triple(u8),
-    Both { state: u8, triple: u8 },
+    Both {
+        state: u8,
+        triple: u8,
+    },
 }
 
 impl Cause {
@@ -125,7 +128,9 @@ impl Common {
 
     /// Where the call with this number stands.
     pub fn place_of(&self, number: u16) -> Option<usize> {
-        self.open_calls().iter().position(|call| call.number == number)
+        self.open_calls()
+            .iter()
+            .position(|call| call.number == number)
     }
 }
 
@@ -168,9 +173,8 @@ impl Common {
 
     fn calls_are_sound(&self, header: &Header) -> bool {
         let calls = self.open_calls();
-        let call_is_sound = |call: &Call| {
-            call.unit < header.units && all_zero(back(&call.kept, header.program))
-        };
+        let call_is_sound =
+            |call: &Call| call.unit < header.units && all_zero(back(&call.kept, header.program));
         let differs = |(place, call): (usize, &Call)| self.place_of(call.number) == Some(place);
         usize::from(self.open) <= MOST_CALLS
             && all_zero(back(&self.calls, self.open))
@@ -184,21 +188,27 @@ impl Common {
         };
         let state_fits = |state: u8| state == self.main && header.is_bad(state);
         verdict.position == self.position
-            && verdict.cause.state().map_or(true, state_fits)
-            && verdict.cause.triple().map_or(true, |t| usize::from(t) < causes)
+            && verdict.cause.state().is_none_or(state_fits)
+            && verdict
+                .cause
+                .triple()
+                .is_none_or(|t| usize::from(t) < causes)
     }
 }
 
 impl SheetState {
     pub fn is_sound(&self, sheet: &Sheet) -> bool {
-        self.common.is_sound(&sheet.machine.header, sheet.triples.len())
+        self.common
+            .is_sound(&sheet.machine.header, sheet.triples.len())
             && all_zero(back(&self.armed, self.common.open))
             && self.armed_are_sound(sheet)
     }
 
     fn armed_are_sound(&self, sheet: &Sheet) -> bool {
         let calls = self.common.open_calls().iter();
-        calls.zip(&self.armed).all(|(call, armed)| armed_is_sound(armed, call.unit, sheet))
+        calls
+            .zip(&self.armed)
+            .all(|(call, armed)| armed_is_sound(armed, call.unit, sheet))
     }
 }
 
@@ -218,7 +228,8 @@ fn armed_is_sound(armed: &Armed, unit: u8, sheet: &Sheet) -> bool {
 
 impl NetworkState {
     pub fn is_sound(&self, network: &Network) -> bool {
-        self.common.is_sound(&network.machine.header, network.templates.len())
+        self.common
+            .is_sound(&network.machine.header, network.templates.len())
             && usize::from(self.living) <= MOST_CHECKERS
             && all_zero(back(&self.checkers, self.living))
             && self.checkers_are_sound(network)
@@ -230,9 +241,8 @@ impl NetworkState {
             return false;
         };
         let places: Vec<usize> = places;
-        let at_most_four = |place: &usize| {
-            places.iter().filter(|other| *other == place).count() <= MOST_ARMED
-        };
+        let at_most_four =
+            |place: &usize| places.iter().filter(|other| *other == place).count() <= MOST_ARMED;
         places.windows(2).all(|two| two[0] <= two[1]) && places.iter().all(at_most_four)
     }
 

@@ -3,10 +3,10 @@
 use crate::engine::Engine;
 use crate::generate::{self, RunCase, Size};
 use crate::network::Network;
-use crate::program;
+use crate::program::{self, MOST_INPUT};
 use crate::random::Random;
 use crate::run::{read_log, run_network, run_sheet, Outcome, Record};
-use crate::sheet::Sheet;
+use crate::sheet::{Sheet, LONGEST_SHEET};
 use crate::state::{Cause, Common, NetworkState, SheetState, Verdict};
 use crate::translate::translate;
 use crate::Refusal;
@@ -38,7 +38,10 @@ impl Tally {
 
     /// What must occur and did not.
     pub fn missing(&self) -> Vec<String> {
-        wanted().into_iter().filter(|label| self.count(label) == 0).collect()
+        wanted()
+            .into_iter()
+            .filter(|label| self.count(label) == 0)
+            .collect()
     }
 }
 
@@ -47,7 +50,11 @@ pub fn wanted() -> Vec<String> {
     let mut labels = Vec::new();
     for engine in ["sheet", "network"] {
         let mut want = |text: &str| labels.push(format!("{engine} run: {text}"));
-        for text in ["violated by state", "violated by triple", "violated by both"] {
+        for text in [
+            "violated by state",
+            "violated by triple",
+            "violated by both",
+        ] {
             want(text);
         }
         for text in ["clean, calls open", "clean, none open", "clean, no events"] {
@@ -65,6 +72,8 @@ pub fn wanted() -> Vec<String> {
         }
         labels.push(format!("{engine} event: taken"));
     }
+    labels.push("input: the longest sheet".into());
+    labels.push("input: no room for another record".into());
     labels.push("translation: refused 19".into());
     labels.push("translation: done".into());
     labels
@@ -111,9 +120,20 @@ pub fn tally(seed: u64, count: usize) -> Result<Tally, String> {
 fn count_run(case: &RunCase, tally: &mut Tally) -> Result<(), String> {
     let outcome = run_sheet(&case.sheet, &case.log);
     tally.add(format!("sheet run: {}", outcome_label(&outcome)));
+    let length = case.sheet.len() + case.log.len();
+    if case.sheet.len() == LONGEST_SHEET {
+        tally.add("input: the longest sheet");
+        tally.add(format!("longest sheet run: {}", outcome_label(&outcome)));
+    }
+    // A record has at least 4 bytes and at most 36.
+    if (MOST_INPUT - 35..=MOST_INPUT).contains(&length) {
+        tally.add("input: no room for another record");
+    }
     let (sheet, network) = program::outcomes(&case.input());
     if sheet != network {
-        return Err(format!("the sheet's run gives {sheet}, the network's {network}"));
+        return Err(format!(
+            "the sheet's run gives {sheet}, the network's {network}"
+        ));
     }
     Ok(())
 }
@@ -121,7 +141,11 @@ fn count_run(case: &RunCase, tally: &mut Tally) -> Result<(), String> {
 /// A network of its own, sometimes broken, with a log that fits it; and now and then a log that
 /// was made for a sheet.
 fn count_network_run(random: &mut Random, case: &RunCase, tally: &mut Tally) {
-    let size = if random.chance(1, 4) { Size::Any } else { Size::Small };
+    let size = if random.chance(1, 4) {
+        Size::Any
+    } else {
+        Size::Small
+    };
     let draft = generate::network(random, size);
     let bytes = match random.below(8) {
         0 | 1 => generate::break_network(random, &draft),

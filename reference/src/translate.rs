@@ -16,8 +16,11 @@ impl Sheet {
         let nothing = machine.actions.len() as u8;
         machine.conditions.push(Condition::True);
         machine.actions.push(Action::default());
-        let mut transitions: Vec<Creating> =
-            self.transitions.iter().map(|t| self.with_pairs(*t)).collect();
+        let mut transitions: Vec<Creating> = self
+            .transitions
+            .iter()
+            .map(|t| self.with_pairs(*t))
+            .collect();
         for (state, unit) in self.places_with_triples() {
             transitions.push(self.with_pairs(Transition {
                 from: state,

@@ -15,8 +15,16 @@ const NOTHING: Lent = Lent {
 #[test]
 fn chosen_cases_have_the_answers_written_beside_them() {
     for (number, row) in condition_cases::chosen().iter().enumerate() {
-        let expected = row.expected.as_deref().expect("a chosen case has an answer");
-        assert_eq!(row.frame.answer(), expected, "case {number}: {:?}", row.frame);
+        let expected = row
+            .expected
+            .as_deref()
+            .expect("a chosen case has an answer");
+        assert_eq!(
+            row.frame.answer(),
+            expected,
+            "case {number}: {:?}",
+            row.frame
+        );
     }
 }
 
@@ -38,9 +46,8 @@ fn the_file_is_large_enough_and_small_enough() {
 fn every_answer_occurs_many_times() {
     let rows = condition_cases::all();
     let count = |kind: Kind, wanted: &dyn Fn(&str) -> bool| {
-        let matching = |row: &&condition_cases::Row| {
-            row.frame.kind == kind && wanted(&row.frame.answer())
-        };
+        let matching =
+            |row: &&condition_cases::Row| row.frame.kind == kind && wanted(&row.frame.answer());
         rows.iter().filter(matching).count()
     };
     for kind in [Kind::Condition, Kind::Value, Kind::Action] {
@@ -51,7 +58,10 @@ fn every_answer_occurs_many_times() {
         assert!(count(Kind::Condition, &|a| a == answer) >= 100, "{answer}");
     }
     for answer in ["000", "100", "110", "101", "111"] {
-        assert!(count(Kind::JudgeCondition, &|a| a == answer) >= 5, "{answer}");
+        assert!(
+            count(Kind::JudgeCondition, &|a| a == answer) >= 5,
+            "{answer}"
+        );
     }
     for answer in ["00", "10", "11"] {
         assert!(count(Kind::JudgeAction, &|a| a == answer) >= 5, "{answer}");
@@ -84,7 +94,9 @@ fn reading_and_writing_give_the_same_bytes() {
 #[test]
 fn starred_rows_of_document_01() {
     let holds = |bytes: &[u8]| expr::evaluate_condition(bytes, &NOTHING);
-    let low_high = [6, 16, 0x80, 0, 0, 0, 16, 0x7F, 0xFF, 0xFF, 0xFF, 16, 0, 0, 0];
+    let low_high = [
+        6, 16, 0x80, 0, 0, 0, 16, 0x7F, 0xFF, 0xFF, 0xFF, 16, 0, 0, 0,
+    ];
     assert_eq!(holds(&[&low_high[..], &[1]].concat()), Ok(true));
     assert_eq!(holds(&[&low_high[..], &[0]].concat()), Ok(false));
     let less = [4, 16, 0xFF, 0xFF, 0xFF, 0xFF, 16, 0, 0, 0, 0];

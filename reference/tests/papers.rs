@@ -96,9 +96,24 @@ fn ends(unit: u8, number: u16, cups: i32) -> Record {
 #[test]
 fn example_9_valid_traces() {
     let sheet = coffee_machine();
-    let w = [starts(BREW, 1, 0), ends(BREW, 1, 1), starts(BREW, 2, 1), ends(BREW, 2, 2)];
-    let w1 = [starts(BREW, 5, 3), ends(BREW, 5, 4), starts(CLEAN, 2, 4), ends(CLEAN, 2, 0)];
-    let w2 = [starts(CLEAN, 4, 2), ends(CLEAN, 4, 0), starts(BREW, 2, 0), ends(BREW, 2, 1)];
+    let w = [
+        starts(BREW, 1, 0),
+        ends(BREW, 1, 1),
+        starts(BREW, 2, 1),
+        ends(BREW, 2, 2),
+    ];
+    let w1 = [
+        starts(BREW, 5, 3),
+        ends(BREW, 5, 4),
+        starts(CLEAN, 2, 4),
+        ends(CLEAN, 2, 0),
+    ];
+    let w2 = [
+        starts(CLEAN, 4, 2),
+        ends(CLEAN, 4, 0),
+        starts(BREW, 2, 0),
+        ends(BREW, 2, 1),
+    ];
     for trace in [w, w1, w2] {
         assert_eq!(line(&sheet, &trace), "clean 4 state 0 open 0");
     }
@@ -117,14 +132,24 @@ fn example_8_counterexample_by_state() {
 fn example_8_counterexample_by_postcondition() {
     let sheet = coffee_machine();
     // The call number 1 is used again, for the other method.
-    let w = [starts(BREW, 1, 0), ends(BREW, 1, 1), starts(CLEAN, 1, 1), ends(CLEAN, 1, 1)];
+    let w = [
+        starts(BREW, 1, 0),
+        ends(BREW, 1, 1),
+        starts(CLEAN, 1, 1),
+        ends(CLEAN, 1, 1),
+    ];
     assert_eq!(line(&sheet, &w), "violated 4 state - triple 1");
 }
 
 #[test]
 fn traces_with_a_counterexample_in_front_are_violating() {
     let sheet = coffee_machine();
-    let w = [starts(BREW, 1, 0), starts(BREW, 2, 0), ends(BREW, 2, 0), ends(BREW, 1, 1)];
+    let w = [
+        starts(BREW, 1, 0),
+        starts(BREW, 2, 0),
+        ends(BREW, 2, 0),
+        ends(BREW, 1, 1),
+    ];
     assert_eq!(line(&sheet, &w), "violated 2 state 2 triple -");
 }
 
@@ -142,7 +167,11 @@ fn at_the_limit_nothing_is_asked_of_brewing() {
     let w = [starts(BREW, 1, LIMIT), ends(BREW, 1, 77)];
     assert_eq!(line(&sheet, &w), "clean 2 state 0 open 0");
     // Not being active, cleaning may begin meanwhile.
-    let w = [starts(BREW, 1, LIMIT), starts(CLEAN, 2, LIMIT), ends(CLEAN, 2, 0)];
+    let w = [
+        starts(BREW, 1, LIMIT),
+        starts(CLEAN, 2, LIMIT),
+        ends(CLEAN, 2, 0),
+    ];
     assert_eq!(line(&sheet, &w), "clean 3 state 0 open 1");
 }
 
@@ -170,15 +199,31 @@ fn section_7_2_translation_of_the_coffee_machine() {
         condition,
         template,
     };
-    let pairs: Vec<Vec<Pair>> = network.transitions.iter().map(|c| c.pairs.clone()).collect();
+    let pairs: Vec<Vec<Pair>> = network
+        .transitions
+        .iter()
+        .map(|c| c.pairs.clone())
+        .collect();
     let given = [vec![pair(1, 0)], vec![], vec![pair(1, 2)], vec![pair(0, 3)]];
     assert_eq!(pairs[..4], given);
     // Document 01 adds one for each state and unit with triples; t'5 of 000 is the second.
-    let added = [vec![pair(1, 0)], vec![pair(0, 1)], vec![pair(1, 2)], vec![pair(0, 3)]];
+    let added = [
+        vec![pair(1, 0)],
+        vec![pair(0, 1)],
+        vec![pair(1, 2)],
+        vec![pair(0, 3)],
+    ];
     assert_eq!(pairs[4..], added);
-    let places: Vec<[u8; 6]> =
-        network.transitions[4..].iter().map(|c| c.transition.bytes()).collect();
-    let expected = [[0, 0, 0, 5, 1, 0], [0, 0, 1, 5, 1, 0], [1, 0, 0, 5, 1, 1], [1, 0, 1, 5, 1, 1]];
+    let places: Vec<[u8; 6]> = network.transitions[4..]
+        .iter()
+        .map(|c| c.transition.bytes())
+        .collect();
+    let expected = [
+        [0, 0, 0, 5, 1, 0],
+        [0, 0, 1, 5, 1, 0],
+        [1, 0, 0, 5, 1, 1],
+        [1, 0, 1, 5, 1, 1],
+    ];
     assert_eq!(places, expected);
 }
 
@@ -272,7 +317,10 @@ fn a_transfer_must_add_its_size() {
     for counted in [Kind::Entry, Kind::Exit] {
         let mut records = session(3);
         records.extend(whole(TRANSFER, 40, 300, 399));
-        assert_eq!(line(&file_transfers(counted), &records), "violated 10 state - triple 0");
+        assert_eq!(
+            line(&file_transfers(counted), &records),
+            "violated 10 state - triple 0"
+        );
     }
 }
 
@@ -297,8 +345,14 @@ fn the_last_transfer_can_fail_by_state_and_triple_at_once() {
 #[test]
 fn logged_out_a_transfer_must_change_nothing() {
     let sheet = file_transfers(Kind::Exit);
-    assert_eq!(line(&sheet, &whole(TRANSFER, 1, 50, 50)), "clean 2 state 0 open 0");
-    assert_eq!(line(&sheet, &whole(TRANSFER, 1, 50, 150)), "violated 2 state - triple 2");
+    assert_eq!(
+        line(&sheet, &whole(TRANSFER, 1, 50, 50)),
+        "clean 2 state 0 open 0"
+    );
+    assert_eq!(
+        line(&sheet, &whole(TRANSFER, 1, 50, 150)),
+        "violated 2 state - triple 2"
+    );
 }
 
 #[test]
@@ -319,7 +373,12 @@ fn renaming_needs_the_right_to_write() {
     let rename = |may_write: i32, name_after: i32| {
         let mut records = session(0);
         records.push(call(Kind::Entry, RENAME, 3, &[0, 0, may_write, 7, 8]));
-        records.push(call(Kind::Exit, RENAME, 3, &[0, 0, may_write, name_after, 8]));
+        records.push(call(
+            Kind::Exit,
+            RENAME,
+            3,
+            &[0, 0, may_write, name_after, 8],
+        ));
         line(&sheet, &records)
     };
     assert_eq!(rename(1, 8), "clean 4 state 1 open 0");
@@ -347,6 +406,8 @@ fn definition_19_actions_in_sequence() {
     let action = sheet.action(&action);
     sheet.transition(0, 1, (Kind::Entry, 0), always, action);
     let read = Sheet::read(&sheet.bytes()).unwrap();
-    let state = read.event(&read.fresh(), &call(Kind::Entry, 0, 1, &[]).event()).unwrap();
+    let state = read
+        .event(&read.fresh(), &call(Kind::Entry, 0, 1, &[]).event())
+        .unwrap();
     assert_eq!(state.common.variables, [5, 5, 0, 0]);
 }

@@ -78,7 +78,11 @@ fn random_bytes_do_not_panic() {
 fn damaged_sheets_and_logs_do_not_panic() {
     let mut random = Random::new(12);
     for _ in 0..50_000 {
-        let size = if random.chance(1, 50) { Size::Full } else { Size::Small };
+        let size = if random.chance(1, 50) {
+            Size::Full
+        } else {
+            Size::Small
+        };
         let draft = generate::sheet(&mut random, size);
         let shape = generate::Shape::of(&draft);
         let manner = generate::Manner::any(&mut random);
@@ -161,7 +165,10 @@ fn compare(on_sheet: &SheetState, on_network: &NetworkState) {
         armed.numbers().iter().map(move |triple| (number, *triple))
     });
     let armed: Vec<(u16, u8)> = armed.collect();
-    let checkers = on_network.living_checkers().iter().map(|c| (c.call, c.template));
+    let checkers = on_network
+        .living_checkers()
+        .iter()
+        .map(|c| (c.call, c.template));
     assert_eq!(armed, checkers.collect::<Vec<_>>());
 }
 
@@ -199,5 +206,7 @@ fn everything_wanted_occurs_many_times() {
 fn what_does_not_occur_is_named() {
     let tally = tally(SEED, 1).unwrap();
     assert!(tally.missing().len() > 20);
-    assert!(tally.missing().contains(&"sheet run: violated by both".to_string()));
+    assert!(tally
+        .missing()
+        .contains(&"sheet run: violated by both".to_string()));
 }

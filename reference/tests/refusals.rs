@@ -58,9 +58,15 @@ fn read_sheet(bytes: &[u8]) -> Result<(), u8> {
     assert_eq!(translate(bytes, &mut buffer).err(), refusal);
     if let Some(refusal) = refusal {
         assert!(buffer.iter().all(|b| *b == 7));
-        assert_eq!(reference::run::run_sheet(bytes, &[]), Outcome::Refused(refusal));
+        assert_eq!(
+            reference::run::run_sheet(bytes, &[]),
+            Outcome::Refused(refusal)
+        );
         let event = event(0, 0, 1);
-        assert_eq!(sheet_event(bytes, &SheetState::default(), &event), Err(refusal));
+        assert_eq!(
+            sheet_event(bytes, &SheetState::default(), &event),
+            Err(refusal)
+        );
     }
     refusal.map_or(Ok(()), |r| Err(r.number()))
 }
@@ -79,7 +85,10 @@ fn read_network(bytes: &[u8]) -> Result<(), u8> {
     let refusal = answer.err();
     if let Some(refusal) = refusal {
         let event = event(0, 0, 1);
-        assert_eq!(network_event(bytes, &NetworkState::default(), &event), Err(refusal));
+        assert_eq!(
+            network_event(bytes, &NetworkState::default(), &event),
+            Err(refusal)
+        );
     }
     refusal.map_or(Ok(()), |r| Err(r.number()))
 }
@@ -109,7 +118,10 @@ fn refusal_1_and_2() {
         assert_eq!(read_sheet(&good[..length]), Err(1));
     }
     assert_eq!(read_sheet(&[&good[..], &[0]].concat()), Err(1));
-    assert_eq!(read_sheet(&[0, 13, 9, 0, 0, 0, 0, 0, 0, 0, 0, 0, 0]), Err(1));
+    assert_eq!(
+        read_sheet(&[0, 13, 9, 0, 0, 0, 0, 0, 0, 0, 0, 0, 0]),
+        Err(1)
+    );
     for version in [0, 2, 255] {
         assert_eq!(sheet_answer(|d| d.front.version = version), Err(2));
     }
@@ -134,8 +146,14 @@ fn refusal_3_counts() {
     assert_eq!(sheet_answer(|d| d.front.monitor = 5), Err(3));
     let four = |d: &mut SheetDraft| (d.front.monitor, d.front.initial) = (4, vec![1, 2, 3, 4]);
     assert_eq!(sheet_answer(four), Ok(()));
-    assert_eq!(sheet_answer(|d| d.front.conditions.resize(64, vec![0])), Ok(()));
-    assert_eq!(sheet_answer(|d| d.front.conditions.resize(65, vec![0])), Err(3));
+    assert_eq!(
+        sheet_answer(|d| d.front.conditions.resize(64, vec![0])),
+        Ok(())
+    );
+    assert_eq!(
+        sheet_answer(|d| d.front.conditions.resize(65, vec![0])),
+        Err(3)
+    );
     assert_eq!(sheet_answer(|d| d.front.actions.resize(32, vec![])), Ok(()));
     assert_eq!(sheet_answer(|d| d.front.actions.resize(33, vec![])), Err(3));
     assert_eq!(sheet_answer(|d| d.transitions.resize(64, [0; 6])), Ok(()));
@@ -162,17 +180,38 @@ fn refusal_3_states() {
     let wide = |d: &mut SheetDraft| (d.front.states, d.front.bad) = (16, 0xFFFE);
     assert_eq!(sheet_answer(wide), Ok(()));
     // 3 comes before 4: with a wrong count the tables do not fit either.
-    assert_eq!(sheet_answer(|d| (d.front.start, d.front.monitor) = (3, 2)), Err(3));
+    assert_eq!(
+        sheet_answer(|d| (d.front.start, d.front.monitor) = (3, 2)),
+        Err(3)
+    );
 }
 
 #[test]
 fn refusal_3_on_networks() {
-    assert_eq!(network_answer(|d| d.front.conditions.resize(65, vec![0])), Ok(()));
-    assert_eq!(network_answer(|d| d.front.conditions.resize(66, vec![0])), Err(3));
-    assert_eq!(network_answer(|d| d.front.actions.resize(33, vec![])), Ok(()));
-    assert_eq!(network_answer(|d| d.front.actions.resize(34, vec![])), Err(3));
-    assert_eq!(network_answer(|d| d.transitions.resize(96, ([0; 6], vec![]))), Ok(()));
-    assert_eq!(network_answer(|d| d.transitions.resize(97, ([0; 6], vec![]))), Err(3));
+    assert_eq!(
+        network_answer(|d| d.front.conditions.resize(65, vec![0])),
+        Ok(())
+    );
+    assert_eq!(
+        network_answer(|d| d.front.conditions.resize(66, vec![0])),
+        Err(3)
+    );
+    assert_eq!(
+        network_answer(|d| d.front.actions.resize(33, vec![])),
+        Ok(())
+    );
+    assert_eq!(
+        network_answer(|d| d.front.actions.resize(34, vec![])),
+        Err(3)
+    );
+    assert_eq!(
+        network_answer(|d| d.transitions.resize(96, ([0; 6], vec![]))),
+        Ok(())
+    );
+    assert_eq!(
+        network_answer(|d| d.transitions.resize(97, ([0; 6], vec![]))),
+        Err(3)
+    );
     assert_eq!(network_answer(|d| d.templates.resize(32, [0, 0])), Ok(()));
     assert_eq!(network_answer(|d| d.templates.resize(33, [0, 0])), Err(3));
 }
@@ -180,26 +219,42 @@ fn refusal_3_on_networks() {
 #[test]
 fn refusal_4() {
     assert_eq!(sheet_answer(|d| d.front.conditions[0] = vec![]), Err(4));
-    assert_eq!(sheet_answer(|d| d.front.conditions[0] = vec![0; 65]), Err(4));
+    assert_eq!(
+        sheet_answer(|d| d.front.conditions[0] = vec![0; 65]),
+        Err(4)
+    );
     assert_eq!(sheet_answer(|d| d.front.actions[0] = vec![0; 65]), Err(4));
     assert_eq!(sheet_answer(|d| d.front.monitor = 2), Err(4));
     assert_eq!(sheet_answer(|d| d.front.monitor = 0), Err(4));
     let full: Vec<u8> = [vec![1; 63], vec![0]].concat();
-    assert_eq!(sheet_answer(|d| d.front.conditions[0].clone_from(&full)), Ok(()));
+    assert_eq!(
+        sheet_answer(|d| d.front.conditions[0].clone_from(&full)),
+        Ok(())
+    );
     // 4 comes before 5: the first condition is no condition, the last action too long.
     let both = |d: &mut SheetDraft| {
         d.front.conditions[0] = vec![99];
         d.front.actions[1] = vec![0; 65];
     };
     assert_eq!(sheet_answer(both), Err(4));
-    assert_eq!(network_answer(|d| d.transitions[0].1 = vec![[0, 0]; 4]), Ok(()));
-    assert_eq!(network_answer(|d| d.transitions[0].1 = vec![[0, 0]; 5]), Err(4));
+    assert_eq!(
+        network_answer(|d| d.transitions[0].1 = vec![[0, 0]; 4]),
+        Ok(())
+    );
+    assert_eq!(
+        network_answer(|d| d.transitions[0].1 = vec![[0, 0]; 5]),
+        Err(4)
+    );
 }
 
 #[test]
 fn refusal_4_by_the_end() {
     for good in [draft().bytes(), network_draft().bytes()] {
-        let read = if good[2] == 1 { read_sheet } else { read_network };
+        let read = if good[2] == 1 {
+            read_sheet
+        } else {
+            read_network
+        };
         for length in 14..good.len() {
             let mut cut = good[..length].to_vec();
             (cut[0], cut[1]) = (0, length as u8);
@@ -214,16 +269,45 @@ fn refusal_4_by_the_end() {
 
 #[test]
 fn refusal_5() {
-    for bad in [&[7][..], &[0, 0], &[17, 0], &[1], &[5, 17, 2, 17, 0], &[5, 18, 1, 17, 0]] {
-        assert_eq!(sheet_answer(|d| d.front.conditions.push(bad.to_vec())), Err(5));
-        assert_eq!(network_answer(|d| d.front.conditions.push(bad.to_vec())), Err(5));
+    for bad in [
+        &[7][..],
+        &[0, 0],
+        &[17, 0],
+        &[1],
+        &[5, 17, 2, 17, 0],
+        &[5, 18, 1, 17, 0],
+    ] {
+        assert_eq!(
+            sheet_answer(|d| d.front.conditions.push(bad.to_vec())),
+            Err(5)
+        );
+        assert_eq!(
+            network_answer(|d| d.front.conditions.push(bad.to_vec())),
+            Err(5)
+        );
     }
     // A value at entry is out of range at P, not at V.
-    assert_eq!(sheet_answer(|d| d.front.conditions.push(vec![5, 19, 2, 19, 0])), Err(5));
-    assert_eq!(sheet_answer(|d| d.front.conditions.push(vec![5, 19, 1, 19, 0])), Ok(()));
-    for bad in [&[0][..], &[1, 17, 0], &[0, 17], &[0, 0], &[0, 17, 0, 0], &[0, 18, 1]] {
+    assert_eq!(
+        sheet_answer(|d| d.front.conditions.push(vec![5, 19, 2, 19, 0])),
+        Err(5)
+    );
+    assert_eq!(
+        sheet_answer(|d| d.front.conditions.push(vec![5, 19, 1, 19, 0])),
+        Ok(())
+    );
+    for bad in [
+        &[0][..],
+        &[1, 17, 0],
+        &[0, 17],
+        &[0, 0],
+        &[0, 17, 0, 0],
+        &[0, 18, 1],
+    ] {
         assert_eq!(sheet_answer(|d| d.front.actions.push(bad.to_vec())), Err(5));
-        assert_eq!(network_answer(|d| d.front.actions.push(bad.to_vec())), Err(5));
+        assert_eq!(
+            network_answer(|d| d.front.actions.push(bad.to_vec())),
+            Err(5)
+        );
     }
     // 5 comes before 6 and 7.
     let both = |d: &mut SheetDraft| {
@@ -238,13 +322,24 @@ fn refusal_5() {
 fn refusal_6() {
     for (place, limit) in [3, 2, 2, 4, 2, 3].into_iter().enumerate() {
         for number in [limit, 255] {
-            assert_eq!(sheet_answer(|d| d.transitions[1][place] = number), Err(6), "{place}");
-            assert_eq!(network_answer(|d| d.transitions[1].0[place] = number), Err(6));
+            assert_eq!(
+                sheet_answer(|d| d.transitions[1][place] = number),
+                Err(6),
+                "{place}"
+            );
+            assert_eq!(
+                network_answer(|d| d.transitions[1].0[place] = number),
+                Err(6)
+            );
         }
     }
     for (place, limit) in [3, 2, 4, 4].into_iter().enumerate() {
         for number in [limit, 255] {
-            assert_eq!(sheet_answer(|d| d.triples[2][place] = number), Err(6), "{place}");
+            assert_eq!(
+                sheet_answer(|d| d.triples[2][place] = number),
+                Err(6),
+                "{place}"
+            );
         }
     }
     // 6 comes before 7: a value at entry as a guard, and a number out of range after it.
@@ -256,14 +351,23 @@ fn refusal_6() {
 fn refusal_6_on_networks() {
     assert_eq!(network_answer(|d| d.transitions[0].1[0] = [4, 0]), Err(6));
     assert_eq!(network_answer(|d| d.transitions[0].1[1] = [0, 3]), Err(6));
-    assert_eq!(network_answer(|d| d.transitions[1].1 = vec![[0, 0]]), Err(6));
-    assert_eq!(network_answer(|d| d.transitions[2].1 = vec![[0, 0]]), Err(6));
+    assert_eq!(
+        network_answer(|d| d.transitions[1].1 = vec![[0, 0]]),
+        Err(6)
+    );
+    assert_eq!(
+        network_answer(|d| d.transitions[2].1 = vec![[0, 0]]),
+        Err(6)
+    );
     assert_eq!(network_answer(|d| d.templates[1] = [1, 3]), Ok(()));
     assert_eq!(network_answer(|d| d.templates[2] = [1, 3]), Err(6));
     assert_eq!(network_answer(|d| d.templates[1] = [2, 3]), Err(6));
     assert_eq!(network_answer(|d| d.templates[1] = [0, 4]), Err(6));
     // The same template twice is allowed.
-    assert_eq!(network_answer(|d| d.transitions[0].1 = vec![[0, 1], [3, 1]]), Ok(()));
+    assert_eq!(
+        network_answer(|d| d.transitions[0].1 = vec![[0, 1], [3, 1]]),
+        Ok(())
+    );
 }
 
 #[test]
@@ -279,15 +383,30 @@ fn refusal_7() {
     for (postcondition, answer) in [(0, Ok(())), (1, Err(7)), (2, Ok(())), (3, Ok(()))] {
         assert_eq!(sheet_answer(|d| d.triples[1][3] = postcondition), answer);
         // A template counts though no pair names it.
-        assert_eq!(network_answer(|d| d.templates[1][1] = postcondition), answer);
+        assert_eq!(
+            network_answer(|d| d.templates[1][1] = postcondition),
+            answer
+        );
     }
     // In actions also where nothing names them; unused conditions may hold anything.
-    assert_eq!(sheet_answer(|d| d.front.actions.push(vec![0, 19, 0])), Err(7));
-    assert_eq!(network_answer(|d| d.front.actions.push(vec![0, 19, 0])), Err(7));
-    assert_eq!(sheet_answer(|d| d.front.conditions.push(vec![5, 18, 0, 19, 0])), Ok(()));
+    assert_eq!(
+        sheet_answer(|d| d.front.actions.push(vec![0, 19, 0])),
+        Err(7)
+    );
+    assert_eq!(
+        network_answer(|d| d.front.actions.push(vec![0, 19, 0])),
+        Err(7)
+    );
+    assert_eq!(
+        sheet_answer(|d| d.front.conditions.push(vec![5, 18, 0, 19, 0])),
+        Ok(())
+    );
     // In a part that evaluation does not reach.
     let hidden = vec![3, 0, 5, 18, 0, 17, 0];
-    assert_eq!(sheet_answer(|d| d.front.conditions[3].clone_from(&hidden)), Err(7));
+    assert_eq!(
+        sheet_answer(|d| d.front.conditions[3].clone_from(&hidden)),
+        Err(7)
+    );
 }
 
 #[test]
@@ -296,7 +415,7 @@ fn refusal_8() {
     assert_eq!(sheet_answer(triples(4)), Ok(()));
     assert_eq!(sheet_answer(triples(5)), Err(8));
     let mixed = |d: &mut SheetDraft| {
-        d.triples = vec![[0, 1, 0, 0], [1, 0, 0, 0]].repeat(4);
+        d.triples = [[0, 1, 0, 0], [1, 0, 0, 0]].repeat(4);
         d.triples.push([1, 1, 0, 0]);
     };
     assert_eq!(sheet_answer(mixed), Ok(()));
@@ -414,7 +533,10 @@ fn refusal_9_by_the_verdict() {
         let mut state = one_open();
         state.common.main = main;
         state.common.verdict = Some(Verdict { position, cause });
-        sheet.event(&state, &event(0, 1, 8)).err().map(Refusal::number)
+        sheet
+            .event(&state, &event(0, 1, 8))
+            .err()
+            .map(Refusal::number)
     };
     let both = |state, triple| Cause::Both { state, triple };
     assert_eq!(offer(2, 1, Cause::State(2)), Some(10));
@@ -434,7 +556,10 @@ fn refusal_9_by_the_verdict() {
         position: 0,
         cause: Cause::Triple(0),
     });
-    assert_eq!(sheet.event(&fresh, &event(0, 0, 1)), Err(Refusal::HasVerdict));
+    assert_eq!(
+        sheet.event(&fresh, &event(0, 0, 1)),
+        Err(Refusal::HasVerdict)
+    );
 }
 
 #[test]
@@ -483,7 +608,10 @@ fn refusal_9_where_checkers_are_not_in_their_calls_order() {
     assert!(state.is_sound(&network));
     state.checkers.swap(0, 2);
     assert!(!state.is_sound(&network));
-    assert_eq!(network.event(&state, &event(0, 1, 9)), Err(Refusal::Unsound));
+    assert_eq!(
+        network.event(&state, &event(0, 1, 9)),
+        Err(Refusal::Unsound)
+    );
 }
 
 #[test]
@@ -496,7 +624,10 @@ fn refusals_10_to_15_in_order() {
         let (_, mut on_network) = network_one_open();
         change(&mut on_network.common);
         let refusal = sheet.event(&on_sheet, event).err().map(Refusal::number);
-        assert_eq!(network.event(&on_network, event).err().map(Refusal::number), refusal);
+        assert_eq!(
+            network.event(&on_network, event).err().map(Refusal::number),
+            refusal
+        );
         refusal
     };
     let short = Event {
@@ -544,7 +675,10 @@ fn refusal_14_comes_after_13() {
     }
     assert_eq!(state.common.open, 16);
     assert_eq!(sheet.event(&state, &event(0, 1, 16)), Err(Refusal::NoPlace));
-    assert_eq!(sheet.event(&state, &event(0, 1, 15)), Err(Refusal::AlreadyOpen));
+    assert_eq!(
+        sheet.event(&state, &event(0, 1, 15)),
+        Err(Refusal::AlreadyOpen)
+    );
     let state = sheet.event(&state, &event(1, 1, 3)).unwrap();
     let numbers: Vec<u16> = state.common.open_calls().iter().map(|c| c.number).collect();
     assert_eq!(numbers, [0, 1, 2, 4, 5, 6, 7, 8, 9, 10, 11, 12, 13, 14, 15]);

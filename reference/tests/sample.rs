@@ -9,7 +9,8 @@ use reference::translate::translate;
 use reference::Refusal;
 
 const SHEET_A: [u8; 39] = [
-    0x00, 0x27, 0x01, 0x02, 0x01, 0x02, 0x00, 0x00, 0x00, 0x00, 0x02, 0x01, 0x02, 0x01, // header
+    0x00, 0x27, 0x01, 0x02, 0x01, 0x02, 0x00, 0x00, 0x00, 0x00, 0x02, 0x01, 0x02,
+    0x01, // header
     0x01, 0x00, // condition 0
     0x05, 0x05, 0x11, 0x01, 0x13, 0x00, // condition 1
     0x00, // action 0
@@ -19,7 +20,8 @@ const SHEET_A: [u8; 39] = [
 ];
 
 const NETWORK_A: [u8; 53] = [
-    0x00, 0x35, 0x02, 0x02, 0x01, 0x02, 0x00, 0x00, 0x00, 0x00, 0x03, 0x02, 0x03, 0x01, // header
+    0x00, 0x35, 0x02, 0x02, 0x01, 0x02, 0x00, 0x00, 0x00, 0x00, 0x03, 0x02, 0x03,
+    0x01, // header
     0x01, 0x00, // condition 0
     0x05, 0x05, 0x11, 0x01, 0x13, 0x00, // condition 1
     0x01, 0x00, // the added condition
@@ -75,12 +77,18 @@ fn the_log_above() {
 
 #[test]
 fn exit_values_8_8_are_clean() {
-    assert_eq!(line(&[entry(7, 8, 0), exit(7, 8, 8)]), "clean 2 state 0 open 0");
+    assert_eq!(
+        line(&[entry(7, 8, 0), exit(7, 8, 8)]),
+        "clean 2 state 0 open 0"
+    );
 }
 
 #[test]
 fn exit_values_7_7_fail_for_8_was_declared_at_entry() {
-    assert_eq!(line(&[entry(7, 8, 0), exit(7, 7, 7)]), "violated 2 state - triple 0");
+    assert_eq!(
+        line(&[entry(7, 8, 0), exit(7, 7, 7)]),
+        "violated 2 state - triple 0"
+    );
 }
 
 #[test]
@@ -140,8 +148,14 @@ fn the_network_of_a() {
 
 #[test]
 fn reading_and_writing_give_the_same_bytes() {
-    assert_eq!(Sheet::read(&SHEET_A).map(|s| s.bytes()), Ok(SHEET_A.to_vec()));
-    assert_eq!(Network::read(&NETWORK_A).map(|n| n.bytes()), Ok(NETWORK_A.to_vec()));
+    assert_eq!(
+        Sheet::read(&SHEET_A).map(|s| s.bytes()),
+        Ok(SHEET_A.to_vec())
+    );
+    assert_eq!(
+        Network::read(&NETWORK_A).map(|n| n.bytes()),
+        Ok(NETWORK_A.to_vec())
+    );
 }
 
 #[test]
@@ -182,15 +196,32 @@ fn refused_logs() {
     assert_eq!(run(&changed(4, 2)), header);
     assert_eq!(run(&LOG[..29]), header);
     assert_eq!(run(&changed(5, 3)), Outcome::Refused(Refusal::LogVariables));
-    assert_eq!(run(&[0, 0, 0, 7, 1, 2, 0]), Outcome::Refused(Refusal::LogRecords));
-    assert_eq!(run(&[0, 0, 0, 7, 1, 1, 0]), Outcome::Refused(Refusal::LogVariables));
-    assert_eq!(run(&changed(6, 2)), Outcome::RefusedAt(Refusal::Arguments, 1));
-    assert_eq!(run(&changed(19, 1)), Outcome::RefusedAt(Refusal::Arguments, 2));
+    assert_eq!(
+        run(&[0, 0, 0, 7, 1, 2, 0]),
+        Outcome::Refused(Refusal::LogRecords)
+    );
+    assert_eq!(
+        run(&[0, 0, 0, 7, 1, 1, 0]),
+        Outcome::Refused(Refusal::LogVariables)
+    );
+    assert_eq!(
+        run(&changed(6, 2)),
+        Outcome::RefusedAt(Refusal::Arguments, 1)
+    );
+    assert_eq!(
+        run(&changed(19, 1)),
+        Outcome::RefusedAt(Refusal::Arguments, 2)
+    );
 }
 
 #[test]
 fn records_after_a_verdict_are_not_judged() {
-    let records = [entry(7, 8, 0), exit(7, 8, 7), record(9, 0, 0, 0), exit(3, 0, 0)];
+    let records = [
+        entry(7, 8, 0),
+        exit(7, 8, 7),
+        record(9, 0, 0, 0),
+        exit(3, 0, 0),
+    ];
     assert_eq!(line(&records), "violated 2 state - triple 0");
 }
 
@@ -222,8 +253,14 @@ fn a_state_from_one_event_to_the_next() {
     assert_eq!(state.armed[0].numbers(), [0]);
     assert_eq!(state.common.calls[0].kept, [8, 0, 0, 0, 0, 0, 0, 0]);
     // A refused event does not advance the position.
-    assert_eq!(sheet.event(&state, &first.event()), Err(Refusal::AlreadyOpen));
+    assert_eq!(
+        sheet.event(&state, &first.event()),
+        Err(Refusal::AlreadyOpen)
+    );
     let state = sheet.event(&state, &exit(7, 8, 7).event()).unwrap();
     assert_eq!(state.common.position, 2);
-    assert_eq!(sheet.event(&state, &first.event()), Err(Refusal::HasVerdict));
+    assert_eq!(
+        sheet.event(&state, &first.event()),
+        Err(Refusal::HasVerdict)
+    );
 }

@@ -22,7 +22,11 @@ fn run_with(program: &str, arguments: &[&str], input: &[u8]) -> Output {
         .spawn()
         .expect("the program starts");
     // A program that refuses its arguments may end before it reads.
-    let _ = child.stdin.take().expect("its input is a pipe").write_all(input);
+    let _ = child
+        .stdin
+        .take()
+        .expect("its input is a pipe")
+        .write_all(input);
     child.wait_with_output().expect("the program ends")
 }
 
@@ -44,7 +48,11 @@ fn directory(name: &str) -> PathBuf {
 #[test]
 fn cases_reproduces_the_committed_files() {
     let output = run(CASES, &["--check"]);
-    assert!(output.status.success(), "{}", String::from_utf8_lossy(&output.stderr));
+    assert!(
+        output.status.success(),
+        "{}",
+        String::from_utf8_lossy(&output.stderr)
+    );
     assert!(output.stderr.is_empty());
 }
 
@@ -70,7 +78,12 @@ fn cases_writes_what_it_checks() {
 
 #[test]
 fn cases_refuses_wrong_arguments() {
-    for arguments in [&["--wrong"][..], &["/nowhere/at/all"], &[".", "."], &["--check", "-x"]] {
+    for arguments in [
+        &["--wrong"][..],
+        &["/nowhere/at/all"],
+        &[".", "."],
+        &["--check", "-x"],
+    ] {
         assert_one_line_and_failure(&run(CASES, arguments));
     }
 }

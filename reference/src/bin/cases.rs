@@ -30,7 +30,9 @@ fn arguments() -> Result<Arguments, String> {
         if text == "--check" {
             check = true;
         } else if text.starts_with('-') {
-            return Err(format!("unknown argument {text}; use: cases [--check] [ROOT]"));
+            return Err(format!(
+                "unknown argument {text}; use: cases [--check] [ROOT]"
+            ));
         } else if root.is_some() {
             return Err(format!("one ROOT only, not also {text}"));
         } else {
@@ -70,7 +72,11 @@ fn check(path: &Path, bytes: &[u8]) -> Result<(), String> {
     if committed == bytes {
         return Ok(());
     }
-    let same = committed.iter().zip(bytes).take_while(|(a, b)| a == b).count();
+    let same = committed
+        .iter()
+        .zip(bytes)
+        .take_while(|(a, b)| a == b)
+        .count();
     Err(format!(
         "{} differs from what the reference makes, first at byte {same}",
         path.display()

@@ -9,6 +9,7 @@ use reference::random::Random;
 use reference::tally::{tally, SEED, USUAL};
 use std::ffi::OsString;
 use std::fs;
+use std::io::Write;
 use std::path::{Path, PathBuf};
 use std::process::ExitCode;
 
@@ -56,9 +57,9 @@ fn work(arguments: &Arguments) -> Result<(), String> {
         write_cases(directory, arguments.count)?;
     }
     let tally = tally(SEED, arguments.count)?;
-    for line in tally.lines() {
-        println!("{line}");
-    }
+    let text = tally.lines().join("\n") + "\n";
+    let printed = std::io::stdout().write_all(text.as_bytes());
+    printed.map_err(|error| format!("standard output: {error}"))?;
     let missing = tally.missing();
     if missing.is_empty() {
         return Ok(());
