@@ -578,6 +578,21 @@ pub fn damaged(random: &mut Random, mut bytes: Vec<u8>) -> Vec<u8> {
     bytes
 }
 
+fn set_log_length(log: &mut [u8]) {
+    let length = (log.len() as u32).to_be_bytes();
+    for (place, byte) in log.iter_mut().zip(length) {
+        *place = byte;
+    }
+}
+
+/// Changes a byte or the number of bytes; mostly with the length set right afterwards.
+fn damage_log(random: &mut Random, log: &mut Vec<u8>) {
+    random_expr::damage(random, log);
+    if random.chance(3, 4) {
+        set_log_length(log);
+    }
+}
+
 /// Breaks a log's header, its P or its length.
 pub fn break_log(random: &mut Random, mut log: Vec<u8>) -> Vec<u8> {
     match random.below(6) {
@@ -586,10 +601,10 @@ pub fn break_log(random: &mut Random, mut log: Vec<u8>) -> Vec<u8> {
         2 => log[3] = log[3].wrapping_add(1),
         3 => log[5] = log[5].wrapping_add(random.pick(&[1, 255])),
         _ => {
-            log.extend(random.bytes(3));
-            log.truncate(log.len() - random.below(3));
-            let length = (log.len() as u32).to_be_bytes();
-            log[..4].copy_from_slice(&length);
+            // Whole words too, which are no record where P is not 0.
+            let extra = random.pick(&[1, 2, 3, 4, 8]);
+            log.extend(random.bytes(extra));
+            set_log_length(&mut log);
         }
     }
     log
@@ -648,7 +663,7 @@ pub fn run_case(random: &mut Random) -> RunCase {
         0 | 1 => bytes = break_sheet(random, &draft),
         2 => bytes = damaged(random, bytes),
         3 => log = break_log(random, log),
-        4 => random_expr::damage(random, &mut log),
+        4 => damage_log(random, &mut log),
         _ => {}
     }
     RunCase { sheet: bytes, log }

@@ -215,6 +215,18 @@ fn refused_logs() {
 }
 
 #[test]
+fn refusal_18_at_every_length() {
+    for length in 6..=LOG.len() {
+        let mut log = LOG[..length].to_vec();
+        log[3] = length as u8;
+        let whole = (length - 6) % 12 == 0;
+        let refused = run_sheet(&SHEET_A, &log) == Outcome::Refused(Refusal::LogRecords);
+        assert_eq!(refused, !whole, "{length}");
+        assert_eq!(run_network(&NETWORK_A, &log), run_sheet(&SHEET_A, &log));
+    }
+}
+
+#[test]
 fn records_after_a_verdict_are_not_judged() {
     let records = [
         entry(7, 8, 0),
