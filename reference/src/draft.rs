@@ -1,0 +1,130 @@
+//! Sheets and networks put together piece by piece. Nothing is judged here, so that wrong ones can
+//! be written too.
+
+use crate::expr::{Action, Condition};
+use crate::machine::{set_length, write_counted, Kind};
+
+/// The header's numbers and the tables of bytes.
+#[derive(Clone, Debug, Default, PartialEq, Eq)]
+pub struct Front {
+    pub version: u8,
+    pub states: u8,
+    pub units: u8,
+    pub program: u8,
+    pub monitor: u8,
+    pub start: u8,
+    pub bad: u16,
+    pub initial: Vec<i32>,
+    pub conditions: Vec<Vec<u8>>,
+    pub actions: Vec<Vec<u8>>,
+}
+
+impl Front {
+    fn write(&self, transitions: usize, last: usize) -> Vec<u8> {
+        let mut out = vec![0, 0, self.version, self.states, self.units];
+        out.extend([self.program, self.monitor, self.start]);
+        out.extend(self.bad.to_be_bytes());
+        for count in [self.conditions.len(), self.actions.len(), transitions, last] {
+            out.push(count as u8);
+        }
+        for value in &self.initial {
+            out.extend(value.to_be_bytes());
+        }
+        for bytes in self.conditions.iter().chain(&self.actions) {
+            write_counted(bytes, &mut out);
+        }
+        out
+    }
+
+    /// Adds a condition and gives its number.
+    pub fn condition(&mut self, condition: &Condition) -> u8 {
+        self.conditions.push(condition.bytes());
+        (self.conditions.len() - 1) as u8
+    }
+
+    /// Adds an action and gives its number.
+    pub fn action(&mut self, action: &Action) -> u8 {
+        self.actions.push(action.bytes());
+        (self.actions.len() - 1) as u8
+    }
+}
+
+#[derive(Clone, Debug, Default, PartialEq, Eq)]
+pub struct SheetDraft {
+    pub front: Front,
+    pub transitions: Vec<[u8; 6]>,
+    pub triples: Vec<[u8; 4]>,
+}
+
+impl SheetDraft {
+    /// An empty sheet of version 1 with these counts, starting in state 0.
+    pub fn new(states: u8, units: u8, program: u8, initial: &[i32]) -> SheetDraft {
+        let front = Front {
+            version: 1,
+            states,
+            units,
+            program,
+            monitor: initial.len() as u8,
+            initial: initial.to_vec(),
+            ..Front::default()
+        };
+        SheetDraft {
+            front,
+            ..SheetDraft::default()
+        }
+    }
+
+    pub fn condition(&mut self, condition: &Condition) -> u8 {
+        self.front.condition(condition)
+    }
+
+    pub fn action(&mut self, action: &Action) -> u8 {
+        self.front.action(action)
+    }
+
+    /// Adds a transition: states, what triggers it, its condition and action.
+    pub fn transition(&mut self, from: u8, to: u8, on: (Kind, u8), condition: u8, action: u8) {
+        let (kind, unit) = on;
+        self.transitions
+            .push([from, kind.byte(), unit, condition, action, to]);
+    }
+
+    pub fn triple(&mut self, state: u8, unit: u8, precondition: u8, postcondition: u8) {
+        self.triples
+            .push([state, unit, precondition, postcondition]);
+    }
+
+    pub fn bytes(&self) -> Vec<u8> {
+        let mut out = self.front.write(self.transitions.len(), self.triples.len());
+        out.extend(self.transitions.concat());
+        out.extend(self.triples.concat());
+        set_length(&mut out);
+        out
+    }
+}
+
+/// A transition's six bytes and its pairs.
+pub type CreatingDraft = ([u8; 6], Vec<[u8; 2]>);
+
+#[derive(Clone, Debug, Default, PartialEq, Eq)]
+pub struct NetworkDraft {
+    pub front: Front,
+    pub transitions: Vec<CreatingDraft>,
+    pub templates: Vec<[u8; 2]>,
+}
+
+impl NetworkDraft {
+    pub fn bytes(&self) -> Vec<u8> {
+        let mut out = self
+            .front
+            .write(self.transitions.len(), self.templates.len());
+        for (transition, pairs) in &self.transitions {
+            out.extend(transition);
+            out.push(pairs.len() as u8);
+            out.extend(pairs.concat());
+        }
+        out.extend(self.templates.concat());
+        set_length(&mut out);
+        out
+    }
+}

@@ -1,0 +1,158 @@
+//! Networks: reading and writing.
+
+use crate::machine::{self, below, Cutter, Kind, Layout, Machine, Role, Transition};
+use crate::refusal::Refusal;
+
+const VERSION: u8 = 2;
+const MOST_PAIRS: u8 = 4;
+
+const LAYOUT: Layout = Layout {
+    version: VERSION,
+    most_conditions: 65,
+    most_actions: 33,
+    most_transitions: 96,
+    most_last: 32,
+};
+
+/// A checker is created from the template where the condition holds at a taken entry.
+#[derive(Clone, Copy, Debug, PartialEq, Eq)]
+pub struct Pair {
+    pub condition: u8,
+    pub template: u8,
+}
+
+#[derive(Clone, Debug, PartialEq, Eq)]
+pub struct Creating {
+    pub transition: Transition,
+    pub pairs: Vec<Pair>,
+}
+
+#[derive(Clone, Copy, Debug, PartialEq, Eq)]
+pub struct Template {
+    pub unit: u8,
+    pub postcondition: u8,
+}
+
+#[derive(Clone, Debug, PartialEq, Eq)]
+pub struct Network {
+    pub machine: Machine,
+    pub transitions: Vec<Creating>,
+    pub templates: Vec<Template>,
+}
+
+impl Network {
+    /// Reads a network, or gives the first refusal of 1-7 that applies.
+    pub fn read(bytes: &[u8]) -> Result<Network, Refusal> {
+        let (header, counts) = machine::read_header(bytes, &LAYOUT)?;
+        let mut cutter = Cutter::after_header(bytes);
+        let front = machine::cut_front(&mut cutter, &header, &counts)?;
+        let transitions = machine::times(counts.transitions, || cut_transition(&mut cutter))?;
+        let templates = machine::times(counts.last, || cutter.take(2))?;
+        cutter.end()?;
+        let machine = machine::read_expressions(header, front)?;
+        let templates = templates.iter().map(|raw| read_template(raw, &machine));
+        let templates: Vec<Template> = templates.collect::<Result<_, _>>()?;
+        let transitions = transitions.iter();
+        let transitions = transitions.map(|raw| read_creating(raw, &machine, &templates));
+        let transitions = transitions.collect::<Result<_, _>>()?;
+        let network = Network {
+            machine,
+            transitions,
+            templates,
+        };
+        machine::check_roles(&network.machine, &network.roles())?;
+        Ok(network)
+    }
+
+    pub fn bytes(&self) -> Vec<u8> {
+        let (transitions, templates) = (self.transitions.len(), self.templates.len());
+        let mut out = self.machine.write(VERSION, transitions, templates);
+        for creating in &self.transitions {
+            out.extend(creating.transition.bytes());
+            out.push(creating.pairs.len() as u8);
+            for pair in &creating.pairs {
+                out.extend([pair.condition, pair.template]);
+            }
+        }
+        for template in &self.templates {
+            out.extend([template.unit, template.postcondition]);
+        }
+        machine::set_length(&mut out);
+        out
+    }
+
+    fn roles(&self) -> Vec<(u8, Role)> {
+        let mut roles = Vec::new();
+        for creating in &self.transitions {
+            roles.push((creating.transition.condition, Role::Guard));
+            let pairs = creating.pairs.iter();
+            roles.extend(pairs.map(|p| (p.condition, Role::Precondition)));
+        }
+        let templates = self.templates.iter();
+        roles.extend(templates.map(|t| (t.postcondition, Role::Postcondition)));
+        roles
+    }
+}
+
+/// A transition as cut: its six bytes and its pairs' bytes.
+struct RawCreating<'a> {
+    transition: &'a [u8],
+    pairs: &'a [u8],
+}
+
+fn cut_transition<'a>(cutter: &mut Cutter<'a>) -> Result<RawCreating<'a>, Refusal> {
+    let transition = cutter.take(6)?;
+    let count = cutter.byte()?;
+    if count > MOST_PAIRS {
+        return Err(Refusal::Tables);
+    }
+    let pairs = cutter.take(2 * usize::from(count))?;
+    Ok(RawCreating { transition, pairs })
+}
+
+fn read_template(raw: &[u8], machine: &Machine) -> Result<Template, Refusal> {
+    let &[unit, postcondition] = raw else {
+        return Err(Refusal::Reference);
+    };
+    Ok(Template {
+        unit: below(unit, machine.header.units)?,
+        postcondition: below(postcondition, machine.conditions.len())?,
+    })
+}
+
+fn read_creating(
+    raw: &RawCreating,
+    machine: &Machine,
+    templates: &[Template],
+) -> Result<Creating, Refusal> {
+    let transition = machine::read_transition(raw.transition, machine)?;
+    if transition.kind == Kind::Exit && !raw.pairs.is_empty() {
+        return Err(Refusal::Reference);
+    }
+    let pairs = raw.pairs.chunks_exact(2);
+    let pairs = pairs.map(|pair| read_pair(pair[0], pair[1], transition.unit, machine, templates));
+    Ok(Creating {
+        transition,
+        pairs: pairs.collect::<Result<_, _>>()?,
+    })
+}
+
+fn read_pair(
+    condition: u8,
+    template: u8,
+    unit: u8,
+    machine: &Machine,
+    templates: &[Template],
+) -> Result<Pair, Refusal> {
+    below(condition, machine.conditions.len())?;
+    let named = templates
+        .get(usize::from(template))
+        .ok_or(Refusal::Reference)?;
+    if named.unit != unit {
+        return Err(Refusal::Reference);
+    }
+    Ok(Pair {
+        condition,
+        template,
+    })
+}

@@ -1,0 +1,318 @@
+//! Makes many cases from a fixed seed and counts what occurred in them.
+
+use crate::engine::Engine;
+use crate::generate::{self, RunCase, Size};
+use crate::network::Network;
+use crate::program::{self, MOST_INPUT};
+use crate::random::Random;
+use crate::run::{read_log, run_network, run_sheet, Outcome, Record};
+use crate::sheet::{Sheet, LONGEST_SHEET};
+use crate::state::{Cause, Common, NetworkState, SheetState, Verdict};
+use crate::translate::translate;
+use crate::Refusal;
+use std::collections::BTreeMap;
+
+pub const SEED: u64 = 0x5741_5443_4802;
+/// How many cases of each sort are made when nothing else is asked for.
+pub const USUAL: usize = 20_000;
+
+/// How often each thing occurred.
+#[derive(Clone, Debug, Default)]
+pub struct Tally {
+    counts: BTreeMap<String, usize>,
+}
+
+impl Tally {
+    fn add(&mut self, label: impl Into<String>) {
+        *self.counts.entry(label.into()).or_insert(0) += 1;
+    }
+
+    pub fn count(&self, label: &str) -> usize {
+        self.counts.get(label).copied().unwrap_or(0)
+    }
+
+    pub fn lines(&self) -> Vec<String> {
+        let line = |(label, count): (&String, &usize)| format!("{count:>8}  {label}");
+        self.counts.iter().map(line).collect()
+    }
+
+    /// What must occur and did not.
+    pub fn missing(&self) -> Vec<String> {
+        wanted()
+            .into_iter()
+            .filter(|label| self.count(label) == 0)
+            .collect()
+    }
+}
+
+/// Everything that must occur.
+pub fn wanted() -> Vec<String> {
+    let mut labels = Vec::new();
+    for engine in ["sheet", "network"] {
+        let mut want = |text: &str| labels.push(format!("{engine} run: {text}"));
+        for text in [
+            "violated by state",
+            "violated by triple",
+            "violated by both",
+        ] {
+            want(text);
+        }
+        for text in ["clean, calls open", "clean, none open", "clean, no events"] {
+            want(text);
+        }
+        let reading = if engine == "sheet" { 8 } else { 7 };
+        for number in (1..=reading).chain(16..=18) {
+            want(&format!("refused {number:02}"));
+        }
+        for number in [11, 13, 14, 15] {
+            want(&format!("refused {number:02} at a record"));
+        }
+        for number in 9..=15 {
+            labels.push(format!("{engine} event: refused {number:02}"));
+        }
+        labels.push(format!("{engine} event: taken"));
+    }
+    labels.push("input: the longest sheet".into());
+    labels.push("input: no room for another record".into());
+    labels.push("translation: refused 19".into());
+    labels.push("translation: done".into());
+    labels
+}
+
+fn outcome_label(outcome: &Outcome) -> String {
+    match outcome {
+        Outcome::Violated(verdict) => match verdict.cause {
+            Cause::State(_) => "violated by state".into(),
+            Cause::Triple(_) => "violated by triple".into(),
+            Cause::Both { .. } => "violated by both".into(),
+        },
+        Outcome::Clean { events: 0, .. } => "clean, no events".into(),
+        Outcome::Clean { open: 0, .. } => "clean, none open".into(),
+        Outcome::Clean { .. } => "clean, calls open".into(),
+        Outcome::Refused(refusal) => format!("refused {:02}", refusal.number()),
+        Outcome::RefusedAt(refusal, _) => {
+            format!("refused {:02} at a record", refusal.number())
+        }
+    }
+}
+
+fn answer_label<T>(answer: &Result<T, Refusal>, good: &str) -> String {
+    match answer {
+        Ok(_) => good.into(),
+        Err(refusal) => format!("refused {:02}", refusal.number()),
+    }
+}
+
+/// Makes `count` cases of each sort. The error is a case where sheet and network differ.
+pub fn tally(seed: u64, count: usize) -> Result<Tally, String> {
+    let mut random = Random::new(seed);
+    let mut tally = Tally::default();
+    for _ in 0..count {
+        let case = generate::run_case(&mut random);
+        count_run(&case, &mut tally)?;
+        count_network_run(&mut random, &case, &mut tally);
+        count_events(&mut random, &case, &mut tally);
+        count_translation(&mut random, &case.sheet, &mut tally)?;
+    }
+    Ok(tally)
+}
+
+fn count_run(case: &RunCase, tally: &mut Tally) -> Result<(), String> {
+    let outcome = run_sheet(&case.sheet, &case.log);
+    tally.add(format!("sheet run: {}", outcome_label(&outcome)));
+    let length = case.sheet.len() + case.log.len();
+    if case.sheet.len() == LONGEST_SHEET {
+        tally.add("input: the longest sheet");
+        tally.add(format!("longest sheet run: {}", outcome_label(&outcome)));
+    }
+    // A record has at least 4 bytes and at most 36.
+    if (MOST_INPUT - 35..=MOST_INPUT).contains(&length) {
+        tally.add("input: no room for another record");
+    }
+    let (sheet, network) = program::outcomes(&case.input());
+    if sheet != network {
+        return Err(format!(
+            "the sheet's run gives {sheet}, the network's {network}"
+        ));
+    }
+    Ok(())
+}
+
+/// A network of its own, sometimes broken, with a log that fits it; and now and then a log that
+/// was made for a sheet.
+fn count_network_run(random: &mut Random, case: &RunCase, tally: &mut Tally) {
+    let size = if random.chance(1, 4) {
+        Size::Any
+    } else {
+        Size::Small
+    };
+    let draft = generate::network(random, size);
+    let bytes = match random.below(8) {
+        0 | 1 => generate::break_network(random, &draft),
+        2 => generate::damaged(random, draft.bytes()),
+        3 => break_network_as_sheet(random),
+        _ => draft.bytes(),
+    };
+    let shape = generate::Shape {
+        units: draft.front.units,
+        program: draft.front.program,
+    };
+    let manner = generate::Manner::any(random);
+    let length = random.between(0, 60);
+    let records = generate::records(random, shape, manner, length);
+    let mut log = crate::run::write_log(shape.program, &records);
+    match random.below(8) {
+        0 => log = generate::break_log(random, log),
+        1 => log.clone_from(&case.log),
+        _ => {}
+    }
+    let outcome = run_network(&bytes, &log);
+    tally.add(format!("network run: {}", outcome_label(&outcome)));
+}
+
+/// What breaks a sheet, carried over into a network with no pairs.
+fn break_network_as_sheet(random: &mut Random) -> Vec<u8> {
+    let mut base = generate::sheet(random, Size::Small);
+    base.triples.clear();
+    base.transitions.clear();
+    let mut bytes = generate::break_sheet(random, &base);
+    if let Some(version) = bytes.get_mut(2) {
+        // 1 becomes 2; a version that is wrong stays wrong.
+        *version = version.wrapping_add(1);
+    }
+    bytes
+}
+
+// ---- Single events ----------------------------------------------------------------------------
+
+/// Offers one event to states reached by the case's log, some of them changed.
+fn count_events(random: &mut Random, case: &RunCase, tally: &mut Tally) {
+    let Ok(sheet) = Sheet::read(&case.sheet) else {
+        return;
+    };
+    let Ok(records) = read_log(&case.log, sheet.machine.header.program) else {
+        return;
+    };
+    let steps = random.between(0, records.len().min(30));
+    let event = any_record(random, &sheet, &records);
+    let change = random.below(8);
+
+    let mut state = reach(&sheet, &records[..steps]);
+    change_common(random, change, &mut state.common);
+    change_sheet_state(random, change, &mut state);
+    let answer = sheet.event(&state, &event.event());
+    tally.add(format!("sheet event: {}", answer_label(&answer, "taken")));
+
+    let network = sheet.translate();
+    let mut state = reach(&network, &records[..steps]);
+    change_common(random, change, &mut state.common);
+    change_network_state(random, change, &mut state);
+    let answer = network.event(&state, &event.event());
+    tally.add(format!("network event: {}", answer_label(&answer, "taken")));
+}
+
+/// The state after the records, or where the first one was refused.
+pub fn reach<E: Engine>(engine: &E, records: &[Record]) -> E::State {
+    let mut state = engine.fresh();
+    for record in records {
+        match engine.event(&state, &record.event()) {
+            Ok(next) => state = next,
+            Err(_) => break,
+        }
+    }
+    state
+}
+
+fn any_record(random: &mut Random, sheet: &Sheet, records: &[Record]) -> Record {
+    let shape = generate::Shape {
+        units: sheet.machine.header.units,
+        program: sheet.machine.header.program,
+    };
+    let manner = generate::Manner {
+        breaks: 3,
+        entries: 4,
+    };
+    let mut record = match records.len() {
+        0 => generate::records(random, shape, manner, 1).remove(0),
+        length => records[random.below(length)].clone(),
+    };
+    match random.below(8) {
+        0 => record.kind = random.byte(),
+        1 => record.kind = 1 - record.kind.min(1),
+        2 => record.call = random.below(40) as u16,
+        3 => record.values.push(0),
+        _ => {}
+    }
+    record
+}
+
+fn change_common(random: &mut Random, change: usize, common: &mut Common) {
+    match change {
+        0 => common.position = u32::MAX,
+        1 => {
+            common.verdict = Some(Verdict {
+                position: common.position,
+                cause: Cause::Triple(random.below(4) as u8),
+            })
+        }
+        2 => match random.below(6) {
+            0 => common.main = random.byte(),
+            1 => common.open = random.byte(),
+            2 => common.variables[random.below(4)] = random.word(),
+            3 => common.calls[random.below(16)].unit = random.byte(),
+            4 => common.calls[random.below(16)].number = random.below(40) as u16,
+            _ => common.calls[random.below(16)].kept[random.below(8)] = random.word(),
+        },
+        _ => {}
+    }
+}
+
+fn change_sheet_state(random: &mut Random, change: usize, state: &mut SheetState) {
+    if change == 3 {
+        let armed = &mut state.armed[random.below(16)];
+        match random.below(2) {
+            0 => armed.count = random.below(6) as u8,
+            _ => armed.triples[random.below(4)] = random.below(34) as u8,
+        }
+    }
+}
+
+fn change_network_state(random: &mut Random, change: usize, state: &mut NetworkState) {
+    if change == 3 {
+        let checker = &mut state.checkers[random.below(8)];
+        match random.below(3) {
+            0 => state.living = random.below(66) as u8,
+            1 => checker.call = random.below(40) as u16,
+            _ => checker.template = random.below(34) as u8,
+        }
+    }
+}
+
+// ---- Translating ------------------------------------------------------------------------------
+
+/// Translates into a buffer that is sometimes too short, and looks at every byte of it.
+fn count_translation(random: &mut Random, sheet: &[u8], tally: &mut Tally) -> Result<(), String> {
+    const FILL: u8 = 0xA5;
+    let Ok(read) = Sheet::read(sheet) else {
+        return Ok(());
+    };
+    let whole = read.translate().bytes();
+    let length = match random.below(4) {
+        0 => random.below(whole.len()),
+        1 => whole.len() - 1,
+        2 => whole.len(),
+        _ => crate::translate::BUFFER,
+    };
+    let mut buffer = vec![FILL; length];
+    let answer = translate(sheet, &mut buffer);
+    tally.add(format!("translation: {}", answer_label(&answer, "done")));
+    let written = answer.unwrap_or(0);
+    let right = buffer[..written] == whole[..written];
+    let untouched = buffer[written..].iter().all(|byte| *byte == FILL);
+    let accepted = Network::read(&whole).is_ok();
+    if right && untouched && accepted && written <= whole.len() {
+        Ok(())
+    } else {
+        Err("a translation is wrong, or wrote past its end".into())
+    }
+}

@@ -1,0 +1,129 @@
+//! The binaries: what they write, and what they say to wrong arguments and missing files.
+
+use std::fs;
+use std::io::Write;
+use std::path::{Path, PathBuf};
+use std::process::{Command, Output, Stdio};
+
+const CASES: &str = env!("CARGO_BIN_EXE_cases");
+const GENERATE: &str = env!("CARGO_BIN_EXE_generate");
+const WATCH: &str = env!("CARGO_BIN_EXE_watch-reference");
+
+fn run(program: &str, arguments: &[&str]) -> Output {
+    run_with(program, arguments, &[])
+}
+
+fn run_with(program: &str, arguments: &[&str], input: &[u8]) -> Output {
+    let mut child = Command::new(program)
+        .args(arguments)
+        .stdin(Stdio::piped())
+        .stdout(Stdio::piped())
+        .stderr(Stdio::piped())
+        .spawn()
+        .expect("the program starts");
+    // A program that refuses its arguments may end before it reads.
+    let _ = child
+        .stdin
+        .take()
+        .expect("its input is a pipe")
+        .write_all(input);
+    child.wait_with_output().expect("the program ends")
+}
+
+fn assert_one_line_and_failure(output: &Output) {
+    let text = String::from_utf8_lossy(&output.stderr);
+    assert!(!output.status.success());
+    assert_eq!(text.lines().count(), 1, "{text}");
+    assert!(output.stdout.is_empty());
+}
+
+/// An empty directory of this test's own.
+fn directory(name: &str) -> PathBuf {
+    let path = Path::new(env!("CARGO_TARGET_TMPDIR")).join(name);
+    let _ = fs::remove_dir_all(&path);
+    fs::create_dir_all(&path).expect("a directory for the test");
+    path
+}
+
+#[test]
+fn cases_reproduces_the_committed_files() {
+    let output = run(CASES, &["--check"]);
+    assert!(
+        output.status.success(),
+        "{}",
+        String::from_utf8_lossy(&output.stderr)
+    );
+    assert!(output.stderr.is_empty());
+}
+
+#[test]
+fn cases_writes_what_it_checks() {
+    let root = directory("writes");
+    fs::create_dir(root.join("crates")).unwrap();
+    let text = root.to_str().unwrap();
+    assert_one_line_and_failure(&run(CASES, &["--check", text]));
+    assert!(run(CASES, &[text]).status.success());
+    assert!(run(CASES, &[text, "--check"]).status.success());
+    let file = root.join("crates/condition_cases/stdout");
+    let mut bytes = fs::read(&file).unwrap();
+    bytes[100] ^= 1;
+    fs::write(&file, &bytes).unwrap();
+    let output = run(CASES, &["--check", text]);
+    assert_one_line_and_failure(&output);
+    assert_eq!(output.status.code(), Some(1));
+    assert!(String::from_utf8_lossy(&output.stderr).contains("differs"));
+    // Checking wrote nothing.
+    assert_eq!(fs::read(&file).unwrap(), bytes);
+}
+
+#[test]
+fn cases_refuses_wrong_arguments() {
+    for arguments in [
+        &["--wrong"][..],
+        &["/nowhere/at/all"],
+        &[".", "."],
+        &["--check", "-x"],
+    ] {
+        assert_one_line_and_failure(&run(CASES, arguments));
+    }
+}
+
+#[test]
+fn generate_refuses_wrong_arguments() {
+    for arguments in [&["many"][..], &["-1"], &["1", "2"], &["--write"]] {
+        assert_one_line_and_failure(&run(GENERATE, arguments));
+    }
+    assert_one_line_and_failure(&run(GENERATE, &["1", "--write", "/nowhere/at/all"]));
+}
+
+#[test]
+fn generate_fails_where_something_did_not_occur() {
+    let output = run(GENERATE, &["3"]);
+    assert_eq!(output.status.code(), Some(1));
+    let text = String::from_utf8_lossy(&output.stderr);
+    assert_eq!(text.lines().count(), 1);
+    assert!(text.contains("did not occur"));
+}
+
+#[test]
+fn generate_writes_cases_that_the_program_answers() {
+    let place = directory("inputs");
+    run(GENERATE, &["20", "--write", place.to_str().unwrap()]);
+    for number in 0..20 {
+        let input = fs::read(place.join(format!("{number:06}.in"))).unwrap();
+        let expected = fs::read(place.join(format!("{number:06}.out"))).unwrap();
+        let output = run_with(WATCH, &[], &input);
+        assert!(output.status.success());
+        assert_eq!(output.stdout, expected);
+    }
+}
+
+#[test]
+fn the_program_prints_two_lines_or_too_long() {
+    let output = run_with(WATCH, &[], &[]);
+    assert_eq!(output.stdout, b"refused 1\nrefused 1\n");
+    let output = run_with(WATCH, &[], &vec![0xFF; 65_537]);
+    assert_eq!(output.stdout, b"too long\n");
+    assert!(output.status.success());
+    assert_one_line_and_failure(&run(WATCH, &["file"]));
+}
