@@ -13,7 +13,7 @@ use Rattle.condition.specs.Tree.{Variable, program, monitor, atEntry, Co
 use Rattle.condition.specs.Parse.{Parsed, malformed, parsed, Reader, andThen, one, two, three, isLent, literal, numbered, ConditionOperator, opTrue, opNot, opAnd, opOr, opLess, opEqual, opWithin, noCondition, conditionOperator, conditionWith, ValueOperator, opConstant, opProgram, opMonitor, opAtEntry, opPlus, opMinus, opChoose, noValue, valueOperator, valueWith}
 use Rattle.condition.specs.Meaning.{Environment, lent, valueOf, holds, word}
 use Rattle.condition.specs.Walk.{bit, Ends, Skips, Gives, Means, Evaluates, conditionReader, valueReader, conditionBit, valueWord, Judged, Packed, literalEnd, variableEnd, literalAt, variableAt, negated}
-use Rattle.condition.proofs.Walking.{condition-opens, value-opens, none-past, skips-past, condition-nil, value-nil, literal-at, literal-short, numbered-at, numbered-short, skips-true, skips-not, skips-and, skips-or, skips-less, skips-equal, skips-within, skips-literal, skips-program, skips-monitor, skips-entry, skips-plus, skips-minus, skips-choose, skips-no-condition, skips-no-value}
+use Rattle.condition.proofs.Walking.{condition-opens, value-opens, none-past, skips-past, condition-nil, value-nil, literal-at, literal-short, numbered-at, numbered-short, condition-two, value-two, skips-true, skips-not, skips-and, skips-or, skips-within, skips-literal, skips-variable, skips-choose, skips-no-condition, skips-no-value}
 
 -- from what is known of the parts to what is known of the whole
 pub gives-any : {A : Type 0} (p : Parsed A) → Gives (λ _. Unit {0}) p
@@ -122,25 +122,44 @@ module _ (E : Environment) (s : List ℕ) (at : ℕ) (h : at < length s) where
     or-left e i y = or-with q r u 1 x (λ d. Unit {0}) y (λ k t. gives-any (conditionReader (lent E) k (drop q s))) e (λ c d p z. rw (bit-true (holds c E) u p i))
 
   module _ (q r a b : ℕ) (x : EvaluatesValue E s (at + 1) q a) (y : EvaluatesValue E s q r b) where
+    -- two values compared, two values joined
+    compared :
+        (g : ℕ → ℕ → Bool) (f : Value → Value → Condition) (o : ConditionOperator) →
+        ((k : ℕ) (t : List ℕ) → conditionWith (conditionReader (lent E) k) (valueReader (lent E) k) o t ≡ two (valueReader (lent E) k) (valueReader (lent E) k) f t) →
+        ((d e : Value) → holds (f d e) E ≡ g (word d E) (word e E)) → conditionOperator (getD s at 0) ≡ o → EvaluatesCondition E s at r (bit (g a b))
+    compared g f o w m e =
+        condition-evaluates o r (bit (g a b)) e (condition-two (lent E) s at h (valueReader (lent E)) (valueReader (lent E)) q r (x .skips) (y .skips) f o w e)
+        (λ k i. rw (w k) (gives-two (valueReader (lent E)) (valueReader (lent E)) (λ d. a ≡ word d E) (λ d. b ≡ word d E) (λ c. bit (g a b) ≡ conditionBit E c) f s (at + 1) q (x .skips) (x .means) (y .means) (λ d e u v. rw (m d e, u, v)) k i))
+
+    joined :
+        (g : ℕ → ℕ → ℕ) (f : Value → Value → Value) (o : ValueOperator) →
+        ((k : ℕ) (t : List ℕ) → valueWith (lent E) (conditionReader (lent E) k) (valueReader (lent E) k) o t ≡ two (valueReader (lent E) k) (valueReader (lent E) k) f t) →
+        ((d e : Value) → word (f d e) E ≡ g (word d E) (word e E)) → valueOperator (getD s at 0) ≡ o → EvaluatesValue E s at r (g a b)
+    joined g f o w m e =
+        value-evaluates o r (g a b) e (value-two (lent E) s at h (valueReader (lent E)) (valueReader (lent E)) q r (x .skips) (y .skips) f o w e)
+        (λ k i. rw (w k) (gives-two (valueReader (lent E)) (valueReader (lent E)) (λ d. a ≡ word d E) (λ d. b ≡ word d E) (λ c. g a b ≡ word c E) f s (at + 1) q (x .skips) (x .means) (y .means) (λ d e u v. rw (m d e, u, v)) k i))
+
     pub evaluates-less : getD s at 0 ≡ 4 → EvaluatesCondition E s at r (bit (lessWord a b))
     unfolding conditionOperator holds
-    evaluates-less e = condition-evaluates opLess r (bit (lessWord a b)) (ap conditionOperator e) (skips-less (lent E) s at h q r (x .skips) (y .skips) e) (gives-two (valueReader (lent E)) (valueReader (lent E)) (λ e. a ≡ word e E) (λ f. b ≡ word f E) (λ c. bit (lessWord a b) ≡ conditionBit E c) less s (at + 1) q (x .skips) (x .means) (y .means) (λ e f i j. rw (i, j)))
+    evaluates-less e = compared lessWord less opLess (λ k t. refl) (λ d e. refl) (ap conditionOperator e)
 
     pub evaluates-equal : getD s at 0 ≡ 5 → EvaluatesCondition E s at r (bit (equalWord a b))
     unfolding conditionOperator holds
-    evaluates-equal e = condition-evaluates opEqual r (bit (equalWord a b)) (ap conditionOperator e) (skips-equal (lent E) s at h q r (x .skips) (y .skips) e) (gives-two (valueReader (lent E)) (valueReader (lent E)) (λ e. a ≡ word e E) (λ f. b ≡ word f E) (λ c. bit (equalWord a b) ≡ conditionBit E c) equal s (at + 1) q (x .skips) (x .means) (y .means) (λ e f i j. rw (i, j)))
+    evaluates-equal e = compared equalWord equal opEqual (λ k t. refl) (λ d e. refl) (ap conditionOperator e)
 
     pub evaluates-plus : getD s at 0 ≡ 20 → EvaluatesValue E s at r (plusWord a b)
     unfolding valueOperator word
-    evaluates-plus e = value-evaluates opPlus r (plusWord a b) (ap valueOperator e) (skips-plus (lent E) s at h q r (x .skips) (y .skips) e) (gives-two (valueReader (lent E)) (valueReader (lent E)) (λ e. a ≡ word e E) (λ f. b ≡ word f E) (λ c. plusWord a b ≡ word c E) plus s (at + 1) q (x .skips) (x .means) (y .means) (λ e f i j. rw (i, j)))
+    evaluates-plus e = joined plusWord plus opPlus (λ k t. refl) (λ d e. refl) (ap valueOperator e)
 
     pub evaluates-minus : getD s at 0 ≡ 21 → EvaluatesValue E s at r (minusWord a b)
     unfolding valueOperator word
-    evaluates-minus e = value-evaluates opMinus r (minusWord a b) (ap valueOperator e) (skips-minus (lent E) s at h q r (x .skips) (y .skips) e) (gives-two (valueReader (lent E)) (valueReader (lent E)) (λ e. a ≡ word e E) (λ f. b ≡ word f E) (λ c. minusWord a b ≡ word c E) minus s (at + 1) q (x .skips) (x .means) (y .means) (λ e f i j. rw (i, j)))
+    evaluates-minus e = joined minusWord minus opMinus (λ k t. refl) (λ d e. refl) (ap valueOperator e)
 
     pub evaluates-within : (t k : ℕ) → getD s at 0 ≡ 6 → EvaluatesValue E s r t k → EvaluatesCondition E s at t (bit (withinWord a b k))
     unfolding conditionOperator holds
-    evaluates-within t k e z = condition-evaluates opWithin t (bit (withinWord a b k)) (ap conditionOperator e) (skips-within (lent E) s at h q r t (y .skips) (z .skips) e (x .skips)) (gives-three (valueReader (lent E)) (valueReader (lent E)) (valueReader (lent E)) (λ e. a ≡ word e E) (λ f. b ≡ word f E) (λ g. k ≡ word g E) (λ c. bit (withinWord a b k) ≡ conditionBit E c) within s (at + 1) q r (x .skips) (y .skips) (x .means) (y .means) (z .means) (λ e f g i j l. rw (i, j, l)))
+    evaluates-within t k e z =
+        condition-evaluates opWithin t (bit (withinWord a b k)) (ap conditionOperator e) (skips-within (lent E) s at h q r t (y .skips) (z .skips) e (x .skips))
+        (gives-three (valueReader (lent E)) (valueReader (lent E)) (valueReader (lent E)) (λ d. a ≡ word d E) (λ d. b ≡ word d E) (λ d. k ≡ word d E) (λ c. bit (withinWord a b k) ≡ conditionBit E c) within s (at + 1) q r (x .skips) (y .skips) (x .means) (y .means) (z .means) (λ d f g i j l. rw (i, j, l)))
 
   module _ (q r t u : ℕ) (x : EvaluatesCondition E s (at + 1) q u) where
     choose-with : (w : ℕ) (P Q : Value → Type 0) → Skips (valueReader (lent E)) s q r → Skips (valueReader (lent E)) s r t → Known P (valueReader (lent E)) s q → Known Q (valueReader (lent E)) s r → getD s at 0 ≡ 22 → ((c : Condition) (e f : Value) → u ≡ conditionBit E c → P e → Q f → w ≡ word (choose c e f) E) → EvaluatesValue E s at t w
@@ -177,14 +196,21 @@ module _ (E : Environment) (s : List ℕ) (at : ℕ) (h : at < length s) where
     variable-means true e false f = rw (numbered-at s at (lent E) kind (ltb-true (at + 1) (length s) e), lends, f) tt
     variable-means false e d f = rw (numbered-short s at (lent E) kind (ltb-false (at + 1) (length s) e)) tt
 
+    evaluates-variable :
+        (o : ValueOperator) → ((k : ℕ) (t : List ℕ) → valueWith (lent E) (conditionReader (lent E) k) (valueReader (lent E) k) o t ≡ numbered (lent E) kind t) → valueOperator (getD s at 0) ≡ o →
+        EvaluatesValue E s at (variableEnd s at (length values)) (variableAt s at values)
+    evaluates-variable o w e =
+        value-evaluates o (variableEnd s at (length values)) (variableAt s at values) e (skips-variable (lent E) s at h kind o (length values) (variableEnd s at (length values)) lends w e refl)
+        (λ k d. rw (w k) (variable-means (ltb (at + 1) (length s)) refl (ltb (getD s (at + 1) 0) (length values)) refl))
+
   pub evaluates-program : getD s at 0 ≡ 17 → EvaluatesValue E s at (variableEnd s at (length (E .programs))) (variableAt s at (E .programs))
   unfolding valueOperator isLent valueOf
-  evaluates-program e = value-evaluates opProgram (variableEnd s at (length (E .programs))) (variableAt s at (E .programs)) (ap valueOperator e) (skips-program (lent E) s at h (variableEnd s at (length (E .programs))) e refl) (λ k d. variable-means program (E .programs) (λ i. refl) (λ i. refl) (ltb (at + 1) (length s)) refl (ltb (getD s (at + 1) 0) (length (E .programs))) refl)
+  evaluates-program e = evaluates-variable program (E .programs) (λ i. refl) (λ i. refl) opProgram (λ k t. refl) (ap valueOperator e)
 
   pub evaluates-monitor : getD s at 0 ≡ 18 → EvaluatesValue E s at (variableEnd s at (length (E .monitors))) (variableAt s at (E .monitors))
   unfolding valueOperator isLent valueOf
-  evaluates-monitor e = value-evaluates opMonitor (variableEnd s at (length (E .monitors))) (variableAt s at (E .monitors)) (ap valueOperator e) (skips-monitor (lent E) s at h (variableEnd s at (length (E .monitors))) e refl) (λ k d. variable-means monitor (E .monitors) (λ i. refl) (λ i. refl) (ltb (at + 1) (length s)) refl (ltb (getD s (at + 1) 0) (length (E .monitors))) refl)
+  evaluates-monitor e = evaluates-variable monitor (E .monitors) (λ i. refl) (λ i. refl) opMonitor (λ k t. refl) (ap valueOperator e)
 
   pub evaluates-entry : getD s at 0 ≡ 19 → EvaluatesValue E s at (variableEnd s at (length (E .kept))) (variableAt s at (E .kept))
   unfolding valueOperator isLent valueOf
-  evaluates-entry e = value-evaluates opAtEntry (variableEnd s at (length (E .kept))) (variableAt s at (E .kept)) (ap valueOperator e) (skips-entry (lent E) s at h (variableEnd s at (length (E .kept))) e refl) (λ k d. variable-means atEntry (E .kept) (λ i. refl) (λ i. refl) (ltb (at + 1) (length s)) refl (ltb (getD s (at + 1) 0) (length (E .kept))) refl)
+  evaluates-entry e = evaluates-variable atEntry (E .kept) (λ i. refl) (λ i. refl) opAtEntry (λ k t. refl) (ap valueOperator e)

@@ -2,7 +2,6 @@
 -- operands end and what they mean. Assumes nothing.
 use mathlib.Core.Path.{_≡_, refl, sym, ap, subst, _∙_}
 use mathlib.Core.Bool.{Bool, true, false, cond}
-use mathlib.Core.Logic.{_⊎_, ⊎-elim}
 use mathlib.Core.List.{List, [], _∷_}
 use Prim.Native.Nat.{ℕ, zero, suc, _+_, _-_, _≤_, _<_}
 use native.Mathlib.Numerals.{add-one}
@@ -108,9 +107,6 @@ module _ (L : Lent) (s : List ℕ) (at : ℕ) (h : at < length s) where
     unfolding conditionOperator
     skips-or e = condition-two (conditionReader L) (conditionReader L) q r x y either opOr (λ k t. refl) (ap conditionOperator e)
 
-    pub skips-joined : (getD s at 0 ≡ 2) ⊎ (getD s at 0 ≡ 3) → Skips (conditionReader L) s at r
-    skips-joined e = ⊎-elim skips-and skips-or e
-
   module _ (q r : ℕ) (x : Skips (valueReader L) s (at + 1) q) (y : Skips (valueReader L) s q r) where
     pub skips-less : getD s at 0 ≡ 4 → Skips (conditionReader L) s at r
     unfolding conditionOperator
@@ -120,9 +116,6 @@ module _ (L : Lent) (s : List ℕ) (at : ℕ) (h : at < length s) where
     unfolding conditionOperator
     skips-equal e = condition-two (valueReader L) (valueReader L) q r x y equal opEqual (λ k t. refl) (ap conditionOperator e)
 
-    pub skips-compared : (getD s at 0 ≡ 4) ⊎ (getD s at 0 ≡ 5) → Skips (conditionReader L) s at r
-    skips-compared e = ⊎-elim skips-less skips-equal e
-
     pub skips-plus : getD s at 0 ≡ 20 → Skips (valueReader L) s at r
     unfolding valueOperator
     skips-plus e = value-two (valueReader L) (valueReader L) q r x y plus opPlus (λ k t. refl) (ap valueOperator e)
@@ -130,9 +123,6 @@ module _ (L : Lent) (s : List ℕ) (at : ℕ) (h : at < length s) where
     pub skips-minus : getD s at 0 ≡ 21 → Skips (valueReader L) s at r
     unfolding valueOperator
     skips-minus e = value-two (valueReader L) (valueReader L) q r x y minus opMinus (λ k t. refl) (ap valueOperator e)
-
-    pub skips-added : (getD s at 0 ≡ 20) ⊎ (getD s at 0 ≡ 21) → Skips (valueReader L) s at r
-    skips-added e = ⊎-elim skips-plus skips-minus e
 
   module _ (q u r : ℕ) (y : Skips (valueReader L) s q u) (z : Skips (valueReader L) s u r) where
     pub skips-within : getD s at 0 ≡ 6 → Skips (valueReader L) s (at + 1) q → Skips (conditionReader L) s at r
@@ -215,7 +205,7 @@ module _ (L : Lent) (s : List ℕ) (at : ℕ) (h : at < length s) where
       (value-skips L s at h opConstant (literalEnd s at) (ap valueOperator e) (literal-bounds s at h (leb (at + 5) (length s)) refl .0) (literal-bounds s at h (leb (at + 5) (length s)) refl .1)
       (λ k d. literal-ends s at (leb (at + 5) (length s)) refl))
 
-  skips-variable : (kind : ℕ → Variable) (o : ValueOperator) (limit r : ℕ) → ((i : ℕ) → isLent L (kind i) ≡ ltb i limit) → ((k : ℕ) (t : List ℕ) → valueWith L (conditionReader L k) (valueReader L k) o t ≡ numbered L kind t) → valueOperator (getD s at 0) ≡ o → r ≡ variableEnd s at limit → Skips (valueReader L) s at r
+  pub skips-variable : (kind : ℕ → Variable) (o : ValueOperator) (limit r : ℕ) → ((i : ℕ) → isLent L (kind i) ≡ ltb i limit) → ((k : ℕ) (t : List ℕ) → valueWith L (conditionReader L k) (valueReader L k) o t ≡ numbered L kind t) → valueOperator (getD s at 0) ≡ o → r ≡ variableEnd s at limit → Skips (valueReader L) s at r
   skips-variable kind o limit r lends w e f =
       let b = ltb (at + 1) (length s) in
       let d = ltb (getD s (at + 1) 0) limit in
