@@ -7,12 +7,13 @@ use mathlib.Core.List.{List, [], _∷_}
 use Prim.Native.Nat.{ℕ}
 use native.Mathlib.Omega.{arith}
 use lib.Dec.{ltb}
+use lib.ListN.{set}
 use borrow.Author.Tests.{le-ltb, not-true}
 use Rattle.condition.specs.declared.Lent.{Lent}
 use Rattle.condition.specs.Word.{plusWord, minusWord, lessWord, equalWord, withinWord}
 use Rattle.condition.specs.Tree.{Variable, program, monitor, atEntry, Condition, always, negation, both, either, less, equal, within, Value, constant, variable, plus, minus, choose, Assignment, conditionNames, valueNames, actionNames, isMonitor, isAtEntry}
 use Rattle.condition.specs.Parse.{isLent, parsed, conditionFrom, valueFrom, runFrom, parseCondition, parseValue, parseAction}
-use Rattle.condition.specs.Meaning.{Environment, environment, lent, valueOf, holds, word, performed}
+use Rattle.condition.specs.Meaning.{Environment, environment, lent, valueOf, holds, word, assigned, performed}
 use Rattle.condition.specs.Answer.{refused, given, sized, judged, conditionOutcome, valueOutcome, actionOutcome, runOutcome, whether, conditionWhich, actionWhich}
 use Rattle.condition.proofs.Parsing.{unlent, targetsBelow, condition-lent, value-lent, action-lent, action-targets, condition-under, value-under, action-under-any, parse-lent, parse-under, parse-action-lent, parse-action-under}
 
@@ -199,3 +200,11 @@ module _ (p m k k′ : List ℕ) where
 
   pub no-entry-word : (e : Value) → valueNames e isAtEntry ≡ false → word e (environment p m k) ≡ word e (environment p m k′)
   no-entry-word = value-agrees (environment p m k) (environment p m k′) no-entry-value
+
+-- the same of an action, whose assignments see one another
+pub no-entry-performed : (p m k k′ : List ℕ) (a : List Assignment) → actionNames a isAtEntry ≡ false → performed a (environment p m k) ≡ performed a (environment p m k′)
+unfolding actionNames performed assigned
+no-entry-performed p m k k′ [] e = refl
+no-entry-performed p m k k′ (x ∷ more) e =
+    let n = or-clear (valueNames (x .source) isAtEntry) (actionNames more isAtEntry) .0 e in
+    rw (no-entry-word p m k k′ (x .source) (n .0)) (no-entry-performed p (set m (x .target) (word (x .source) (environment p m k′))) k k′ more (n .1))
