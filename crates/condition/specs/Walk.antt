@@ -78,6 +78,16 @@ literalAt s at = cond (leb (at + 5) (length s)) (bigEndian (getD s (at + 1) 0) (
 abbrev pub variableAt : List ℕ → ℕ → List ℕ → ℕ
 variableAt s at values = cond (ltb (at + 1) (length s)) (cond (ltb (getD s (at + 1) 0) (length values)) (getD values (getD s (at + 1) 0) 0) 0) 0
 
+-- The same where 0, which holds no place, stands for malformed: no word, and the place past the end.
+pub record Tried (past next w r : ℕ) : Type 0 where
+  pub found : (r ≡ 0 → ⊥) → Packed next w r
+  pub none : r ≡ 0 → (next ≡ past) × (w ≡ 0)
+
+-- What is read at a place without a call: the value there, or 0. Then there is none, unless its operator takes operands.
+pub record Leaf (E : Environment) (s : List ℕ) (at r : ℕ) : Type 0 where
+  pub found : (r ≡ 0 → ⊥) → Evaluates (valueReader (lent E)) (valueWord E) s at (r / 2 ^ 32) (r % 2 ^ 32)
+  pub none : r ≡ 0 → at < length s → (getD s at 0 ≡ 20 → ⊥) → (getD s at 0 ≡ 21 → ⊥) → (getD s at 0 ≡ 22 → ⊥) → Evaluates (valueReader (lent E)) (valueWord E) s at (length s + 1) 0
+
 abbrev pub negated : ℕ → Bool
 negated n = eqb n 0
 
