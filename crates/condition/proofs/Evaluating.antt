@@ -13,8 +13,8 @@ use Rattle.condition.specs.Word.{plusWord, minusWord, lessWord, equalWor
 use Rattle.condition.specs.Tree.{Variable, program, monitor, atEntry, Condition, always, negation, both, either, less, equal, within, Value, constant, variable, plus, minus, choose}
 use Rattle.condition.specs.Parse.{Parsed, malformed, parsed, Reader, andThen, one, two, three, isLent, literal, numbered, ConditionOperator, opTrue, opNot, opAnd, opOr, opLess, opEqual, opWithin, noCondition, conditionOperator, conditionWith, ValueOperator, opConstant, opProgram, opMonitor, opAtEntry, opPlus, opMinus, opChoose, noValue, valueOperator, valueWith}
 use Rattle.condition.specs.Meaning.{Environment, lent, valueOf, holds, word}
-use Rattle.condition.specs.Walk.{bit, Ends, Skips, Gives, Means, Evaluates, conditionReader, valueReader, conditionBit, valueWord, Judged, Packed, literalEnd, variableEnd, literalAt, variableAt, negated, Tried, Leaf}
-use Rattle.condition.proofs.Walking.{condition-opens, value-opens, none-past, skips-past, condition-nil, value-nil, no-value, value-skips, literal-at, literal-short, numbered-at, numbered-short, condition-two, value-two, skips-true, skips-not, skips-and, skips-or, skips-within, skips-literal, skips-variable, skips-choose, skips-no-condition, skips-no-value}
+use Rattle.condition.specs.Walk.{bit, Ends, Skips, Gives, Means, Evaluates, conditionReader, valueReader, conditionBit, valueWord, Judged, Packed, literalEnd, variableEnd, literalAt, variableAt, negated, WordTried, LeafEvaluated}
+use Rattle.condition.proofs.Walking.{condition-opens, value-opens, none-past, skips-past, condition-nil, value-nil, no-value, none-short, skips-short, tried-none, literal-at, literal-short, numbered-at, numbered-short, condition-two, value-two, skips-true, skips-not, skips-and, skips-or, skips-within, skips-literal, skips-variable, skips-choose, skips-no-condition, skips-no-value}
 
 -- from what is known of the parts to what is known of the whole
 pub gives-any : {A : Type 0} (p : Parsed A) → Gives (λ _. Unit {0}) p
@@ -216,43 +216,25 @@ module _ (E : Environment) (s : List ℕ) (at : ℕ) (h : at < length s) where
   unfolding valueOperator isLent valueOf
   evaluates-entry e = evaluates-variable atEntry (E .kept) (λ i. refl) (λ i. refl) opAtEntry (λ k t. refl) (ap valueOperator e)
 
-  -- a value takes two bytes
-  nothing-read : (o : ValueOperator) (k : ℕ) → valueWith (lent E) (conditionReader (lent E) k) (valueReader (lent E) k) o [] ≡ malformed
-  unfolding literal numbered
-  nothing-read opConstant k = refl
-  nothing-read opProgram k = refl
-  nothing-read opMonitor k = refl
-  nothing-read opAtEntry k = refl
-  nothing-read opPlus k = rw (value-nil (lent E) k)
-  nothing-read opMinus k = rw (value-nil (lent E) k)
-  nothing-read opChoose k = rw (condition-nil (lent E) k)
-  nothing-read noValue k = refl
-
-  value-short : (o : ValueOperator) → valueOperator (getD s at 0) ≡ o → length s ≤ at + 1 → EvaluatesValue E s at (length s + 1) 0
-  value-short o e g =
-      let past = none-past Value (λ k t. valueWith (lent E) (conditionReader (lent E) k) (valueReader (lent E) k) o t) (nothing-read o) s (at + 1) in
-      value-evaluates o (length s + 1) 0 e (value-skips (lent E) s at h o (length s + 1) e (omega arith) (omega arith) (λ k d. past (Ends s (length s + 1)) refl g k)) (λ k d. past (Means (valueWord E) 0) tt g k)
+  value-short : length s ≤ at + 1 → EvaluatesValue E s at (length s + 1) 0
+  value-short g =
+      let o = valueOperator (getD s at 0) in
+      value-evaluates o (length s + 1) 0 refl (skips-short (lent E) s at h g) (λ k d. none-short (lent E) s at h (Means (valueWord E) 0) tt o g k)
 
 -- what is read without a call
-pub tried-place : (past next w r : ℕ) → 0 < next → Packed next w r → Tried past next w r
-tried-place past next w r h j = record { found = λ f. j; none = λ z. absurd (omega (arith, j .place)) }
-
-pub tried-none : (past : ℕ) → Tried past past 0 0
-tried-none past = record { found = λ f. absurd (f refl); none = λ z. (refl, refl) }
-
 module _ (E : Environment) (s : List ℕ) (at : ℕ) where
-  pub leaf-short : length s ≤ at + 1 → Leaf E s at 0
-  leaf-short g = record { found = λ f. absurd (f refl); none = λ z h a b c. value-short E s at h (valueOperator (getD s at 0)) refl g }
+  pub leaf-short : length s ≤ at + 1 → LeafEvaluated E s at 0
+  leaf-short g = tried-none (λ n. value-short E s at (n .0) g)
 
-  pub leaf-none : (getD s at 0 ≡ 16 → ⊥) → (getD s at 0 ≡ 17 → ⊥) → (getD s at 0 ≡ 18 → ⊥) → (getD s at 0 ≡ 19 → ⊥) → Leaf E s at 0
-  leaf-none e f g i = record { found = λ n. absurd (n refl); none = λ z h a b c. no-value-there E s at h (no-value (getD s at 0) e f g i a b c) }
+  pub leaf-none : (getD s at 0 ≡ 16 → ⊥) → (getD s at 0 ≡ 17 → ⊥) → (getD s at 0 ≡ 18 → ⊥) → (getD s at 0 ≡ 19 → ⊥) → LeafEvaluated E s at 0
+  leaf-none e f g i = tried-none (λ n. no-value-there E s at (n .0) (no-value (getD s at 0) e f g i (n .1 .0) (n .1 .1 .0) (n .1 .1 .1)))
 
-  pub as-leaf : (next w r : ℕ) → Tried (length s + 1) next w r → EvaluatesValue E s at next w → Leaf E s at r
-  as-leaf next w r t x = record { found = λ f. as-packed E s at next w r (t .found f) x; none = λ z h a b c. rw (t .none z .0, t .none z .1) at x }
+  pub as-leaf : (next w r : ℕ) → WordTried s next w r → EvaluatesValue E s at next w → LeafEvaluated E s at r
+  as-leaf next w r t x = record { found = λ f. as-packed E s at next w r (t .found f) x; none = λ z n. rw (t .none z .0, t .none z .1) at x }
 
   -- an operand, whether it was read or a call evaluated it
   pub same-value : (a v : ℕ) → a ≡ v → EvaluatesValue E s at (v / 2 ^ 32) (v % 2 ^ 32) → EvaluatesValue E s at (a / 2 ^ 32) (a % 2 ^ 32)
   same-value a v e x = subst (λ (n : ℕ). EvaluatesValue E s at (n / 2 ^ 32) (n % 2 ^ 32)) (sym e) x
 
-  pub operand : {A B : Type 0} (l a : ℕ) → Leaf E s at l → A ⊎ B → (A → EvaluatesValue E s at (a / 2 ^ 32) (a % 2 ^ 32)) → (B → (l ≡ 0 → ⊥) × (a ≡ l)) → EvaluatesValue E s at (a / 2 ^ 32) (a % 2 ^ 32)
+  pub operand : {A B : Type 0} (l a : ℕ) → LeafEvaluated E s at l → A ⊎ B → (A → EvaluatesValue E s at (a / 2 ^ 32) (a % 2 ^ 32)) → (B → (l ≡ 0 → ⊥) × (a ≡ l)) → EvaluatesValue E s at (a / 2 ^ 32) (a % 2 ^ 32)
   operand l a x c f g = ⊎-elim f (λ w. same-value a l (g w .1) (x .found (g w .0))) c

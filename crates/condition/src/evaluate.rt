@@ -6,7 +6,7 @@ ghost use Prim.Native.Nat.{_+_, _/_, _%_, _^_, _≤_, _<_};
 ghost use lib.ListN.{length, getD};
 ghost use Rattle.condition.specs.Word.{plusWord, minusWord, lessWord, equalWord, withinWord};
 ghost use Rattle.condition.specs.Meaning.{environment, lent};
-ghost use Rattle.condition.specs.Walk.{Evaluates, conditionReader, valueReader, conditionBit, valueWord, Judged, Packed, literalEnd, variableEnd, literalAt, variableAt, negated, Leaf, Tried};
+ghost use Rattle.condition.specs.Walk.{Evaluates, conditionReader, valueReader, conditionBit, valueWord, Judged, Packed, literalEnd, variableEnd, literalAt, variableAt, negated, WordTried, LeafEvaluated};
 use crate::skip;
 use crate::word;
 
@@ -103,7 +103,7 @@ pub(crate) fn value(s: &&[u8], at: usize, p: &&[u32], m: &&[u32], k: &&[u32]) ->
 // none.
 fn leaf(s: &&[u8], at: usize, p: &&[u32], m: &&[u32], k: &&[u32]) -> usize
     requires { ⌜ (length (now (now s)) ≤ 65535) × (at < 2 ^ 32) ⌝ }
-    ensures { λ r. ⌜ Leaf (environment (now (now (p .entry))) (now (now (m .entry))) (now (now (k .entry)))) (now (now (s .entry))) at r ⌝ }
+    ensures { λ r. ⌜ LeafEvaluated (environment (now (now (p .entry))) (now (now (m .entry))) (now (now (k .entry)))) (now (now (s .entry))) at r ⌝ }
 {
     if at + 1 < s.len() {} else {
         return 0;
@@ -120,7 +120,7 @@ fn leaf(s: &&[u8], at: usize, p: &&[u32], m: &&[u32], k: &&[u32]) -> usize
 // The four bytes that follow `at`, as a word; 0 where there are fewer.
 fn literal(s: &&[u8], at: usize) -> usize
     requires { ⌜ (length (now (now s)) ≤ 65535) × (at < length (now (now s))) ⌝ }
-    ensures { λ r. ⌜ Tried (length (now (now (s .entry))) + 1) (literalEnd (now (now (s .entry))) at) (literalAt (now (now (s .entry))) at) r ⌝ }
+    ensures { λ r. ⌜ WordTried (now (now (s .entry))) (literalEnd (now (now (s .entry))) at) (literalAt (now (now (s .entry))) at) r ⌝ }
 {
     if at + 5 <= s.len() {
         packed(
@@ -135,7 +135,7 @@ fn literal(s: &&[u8], at: usize) -> usize
 // The value of the variable whose number follows `at`; 0 where it is not lent.
 fn variable(s: &&[u8], at: usize, values: &&[u32]) -> usize
     requires { ⌜ (length (now (now s)) ≤ 65535) × (at + 1 < length (now (now s))) ⌝ }
-    ensures { λ r. ⌜ Tried (length (now (now (s .entry))) + 1) (variableEnd (now (now (s .entry))) at (length (now (now (values .entry))))) (variableAt (now (now (s .entry))) at (now (now (values .entry)))) r ⌝ }
+    ensures { λ r. ⌜ WordTried (now (now (s .entry))) (variableEnd (now (now (s .entry))) at (length (now (now (values .entry))))) (variableAt (now (now (s .entry))) at (now (now (values .entry)))) r ⌝ }
 {
     let i = word::wide(s[at + 1]);
     if i < values.len() {

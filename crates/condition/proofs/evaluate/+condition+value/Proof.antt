@@ -54,25 +54,25 @@ pub +condition+value-spec : {M : Type 1} → statement M
     μ-condition
     μ-value
     (λ t. condition-lts.spec (
-  judged-reads.Asked,
-  judged-reads.Learnt,
-  condition-below t,
-  condition.Post,
-  negate-reads.Asked,
-  negate-reads.Learnt,
-  condition-reads.Asked,
-  condition-reads.Learnt,
-  leaf-reads.Asked,
-  leaf-reads.Learnt,
-  value-below t,
-  value.Post,
-  less-reads.Asked,
-  less-reads.Learnt,
-  equal-reads.Asked,
-  equal-reads.Learnt,
-  within-reads.Asked,
-  within-reads.Learnt,
-)
+      judged-reads.Asked,
+      judged-reads.Learnt,
+      condition-below t,
+      condition.Post,
+      negate-reads.Asked,
+      negate-reads.Learnt,
+      condition-reads.Asked,
+      condition-reads.Learnt,
+      leaf-reads.Asked,
+      leaf-reads.Learnt,
+      value-below t,
+      value.Post,
+      less-reads.Asked,
+      less-reads.Learnt,
+      equal-reads.Asked,
+      equal-reads.Learnt,
+      within-reads.Asked,
+      within-reads.Learnt,
+    )
     (condition-at t)
     condition.Post
     (λ c. search needs)
@@ -170,5 +170,5 @@ pub +condition+value-spec : {M : Type 1} → statement M
     (λ c. as-packed _ _ _ _ _ _ (c .minus .ensures) (evaluates-minus _ _ _ (c .before .before .before .before .before .before .before .before .if1 .taken) _ _ _ _ (operand _ _ _ _ (c .before .before .before .before .if4 .a) (c .before .before .before .before .before .leaf3 .ensures) (c .before .before .before .before .if4 .came) (λ w. same-value _ _ _ _ _ (w .2) (w .1 .ensures)) (λ w. (w .0 .left, w .1))) (operand _ _ _ _ (c .before .if5 .b) (c .before .before .leaf4 .ensures) (c .before .if5 .came) (λ w. same-value _ _ _ _ _ (w .2) (w .1 .ensures)) (λ w. (w .0 .left, w .1))) (c .before .before .before .before .before .before .match .keys2)))
     (λ c. as-packed _ _ _ _ _ _ (rw (c .before .word-of .ensures) at (c .packed2 .ensures)) (choose-left _ _ _ (c .before .before .before .before .before .before .before .before .if1 .taken) _ _ _ _ (c .before .before .before .before .before .condition .ensures) _ (c .before .before .before .before .before .before .match .keys3) (c .before .before .before .before .if6 .taken) (c .before .before .before .value5 .ensures) (c .before .before .value6 .ensures)))
     (λ c. choose-right _ _ _ (c .before .before .before .before .before .before .if1 .taken) _ _ _ _ (c .before .before .before .condition .ensures) _ (c .before .before .before .before .match .keys3) (c .before .before .if6 .left) (c .before .value7 .ensures) (c .value8 .ensures))
-    (λ c. as-packed _ _ _ _ _ _ (c .packed3 .ensures) (c .before .before .leaf5 .ensures .none (c .before .if7 .taken) (c .before .before .before .before .before .if1 .taken) (c .before .before .before .match .rest .0 .0 .1) (c .before .before .before .match .rest .0 .1) (c .before .before .before .match .rest .1)))
+    (λ c. as-packed _ _ _ _ _ _ (c .packed3 .ensures) (c .before .before .leaf5 .ensures .none (c .before .if7 .taken) (c .before .before .before .before .before .if1 .taken, (c .before .before .before .match .rest .0 .0 .1, (c .before .before .before .match .rest .0 .1, c .before .before .before .match .rest .1)))))
     (λ c. c .before .leaf5 .ensures .found (c .if7 .left))
