@@ -1,7 +1,7 @@
 -- What a condition or a value means, from what its operands mean. Assumes nothing.
 use mathlib.Core.Path.{_≡_, refl, sym, ap, subst, _∙_}
 use mathlib.Core.Bool.{Bool, true, false, not, cond}
-use mathlib.Core.Logic.{_⊎_, ⊎-elim}
+use mathlib.Core.Logic.{_⊎_}
 use mathlib.Core.List.{List, [], _∷_}
 use Prim.Native.Nat.{ℕ, _+_, _-_, _/_, _%_, _^_, _≤_, _<_}
 use native.Mathlib.Omega.{arith}
@@ -14,7 +14,7 @@ use Rattle.condition.specs.Tree.{Variable, program, monitor, atEntry, Co
 use Rattle.condition.specs.Parse.{Parsed, malformed, parsed, Reader, andThen, one, two, three, isLent, literal, numbered, ConditionOperator, opTrue, opNot, opAnd, opOr, opLess, opEqual, opWithin, noCondition, conditionOperator, conditionWith, ValueOperator, opConstant, opProgram, opMonitor, opAtEntry, opPlus, opMinus, opChoose, noValue, valueOperator, valueWith}
 use Rattle.condition.specs.Meaning.{Environment, lent, valueOf, holds, word}
 use Rattle.condition.specs.Walk.{bit, Ends, Skips, Gives, Means, Evaluates, conditionReader, valueReader, conditionBit, valueWord, Judged, Packed, literalEnd, variableEnd, literalAt, variableAt, negated, WordTried, LeafEvaluated}
-use Rattle.condition.proofs.Walking.{condition-opens, value-opens, none-past, skips-past, condition-nil, value-nil, no-value, none-short, skips-short, tried-none, literal-at, literal-short, numbered-at, numbered-short, condition-two, value-two, skips-true, skips-not, skips-and, skips-or, skips-within, skips-literal, skips-variable, skips-choose, skips-no-condition, skips-no-value}
+use Rattle.condition.proofs.Walking.{condition-opens, value-opens, none-past, skips-past, condition-nil, value-nil, no-value, none-short, skips-short, tried-none, either-way, literal-at, literal-short, numbered-at, numbered-short, condition-two, value-two, skips-true, skips-not, skips-and, skips-or, skips-within, skips-literal, skips-variable, skips-choose, skips-no-condition, skips-no-value}
 
 -- from what is known of the parts to what is known of the whole
 pub gives-any : {A : Type 0} (p : Parsed A) → Gives (λ _. Unit {0}) p
@@ -178,7 +178,7 @@ module _ (E : Environment) (s : List ℕ) (at : ℕ) (h : at < length s) where
   pub no-condition-there : conditionOperator (getD s at 0) ≡ noCondition → EvaluatesCondition E s at (length s + 1) (bit false)
   no-condition-there e = condition-evaluates noCondition (length s + 1) 0 e (skips-no-condition (lent E) s at h e) (λ k d. tt)
 
-  pub no-value-there : valueOperator (getD s at 0) ≡ noValue → EvaluatesValue E s at (length s + 1) 0
+  no-value-there : valueOperator (getD s at 0) ≡ noValue → EvaluatesValue E s at (length s + 1) 0
   no-value-there e = value-evaluates noValue (length s + 1) 0 e (skips-no-value (lent E) s at h e) (λ k d. tt)
 
   literal-means : (b : Bool) → leb (at + 5) (length s) ≡ b → Means (valueWord E) (literalAt s at) (literal (drop (at + 1) s))
@@ -232,9 +232,6 @@ module _ (E : Environment) (s : List ℕ) (at : ℕ) where
   pub as-leaf : (next w r : ℕ) → WordTried s next w r → EvaluatesValue E s at next w → LeafEvaluated E s at r
   as-leaf next w r t x = record { found = λ f. as-packed E s at next w r (t .found f) x; none = λ z n. rw (t .none z .0, t .none z .1) at x }
 
-  -- an operand, whether it was read or a call evaluated it
-  pub same-value : (a v : ℕ) → a ≡ v → EvaluatesValue E s at (v / 2 ^ 32) (v % 2 ^ 32) → EvaluatesValue E s at (a / 2 ^ 32) (a % 2 ^ 32)
-  same-value a v e x = subst (λ (n : ℕ). EvaluatesValue E s at (n / 2 ^ 32) (n % 2 ^ 32)) (sym e) x
-
+  -- an operand that was read by a call or without
   pub operand : {A B : Type 0} (l a : ℕ) → LeafEvaluated E s at l → A ⊎ B → (A → EvaluatesValue E s at (a / 2 ^ 32) (a % 2 ^ 32)) → (B → (l ≡ 0 → ⊥) × (a ≡ l)) → EvaluatesValue E s at (a / 2 ^ 32) (a % 2 ^ 32)
-  operand l a x c f g = ⊎-elim f (λ w. same-value a l (g w .1) (x .found (g w .0))) c
+  operand l a x c f g = either-way (λ (n : ℕ). EvaluatesValue E s at (n / 2 ^ 32) (n % 2 ^ 32)) l a x c f g

@@ -116,19 +116,19 @@ module _ (L : Lent) (s : List ℕ) (at : ℕ) (h : at < length s) where
     skips-or e = condition-two (conditionReader L) (conditionReader L) q r x y either opOr (λ k t. refl) (ap conditionOperator e)
 
   module _ (q r : ℕ) (x : Skips (valueReader L) s (at + 1) q) (y : Skips (valueReader L) s q r) where
-    pub skips-less : getD s at 0 ≡ 4 → Skips (conditionReader L) s at r
+    skips-less : getD s at 0 ≡ 4 → Skips (conditionReader L) s at r
     unfolding conditionOperator
     skips-less e = condition-two (valueReader L) (valueReader L) q r x y less opLess (λ k t. refl) (ap conditionOperator e)
 
-    pub skips-equal : getD s at 0 ≡ 5 → Skips (conditionReader L) s at r
+    skips-equal : getD s at 0 ≡ 5 → Skips (conditionReader L) s at r
     unfolding conditionOperator
     skips-equal e = condition-two (valueReader L) (valueReader L) q r x y equal opEqual (λ k t. refl) (ap conditionOperator e)
 
-    pub skips-plus : getD s at 0 ≡ 20 → Skips (valueReader L) s at r
+    skips-plus : getD s at 0 ≡ 20 → Skips (valueReader L) s at r
     unfolding valueOperator
     skips-plus e = value-two (valueReader L) (valueReader L) q r x y plus opPlus (λ k t. refl) (ap valueOperator e)
 
-    pub skips-minus : getD s at 0 ≡ 21 → Skips (valueReader L) s at r
+    skips-minus : getD s at 0 ≡ 21 → Skips (valueReader L) s at r
     unfolding valueOperator
     skips-minus e = value-two (valueReader L) (valueReader L) q r x y minus opMinus (λ k t. refl) (ap valueOperator e)
 
@@ -155,7 +155,7 @@ module _ (L : Lent) (s : List ℕ) (at : ℕ) (h : at < length s) where
   skips-no-value e = value-skips noValue (length s + 1) e (omega arith) (omega arith) (λ k d. refl)
 
   -- a value takes two bytes
-  pub nothing-read : (o : ValueOperator) (k : ℕ) → valueWith L (conditionReader L k) (valueReader L k) o [] ≡ malformed
+  nothing-read : (o : ValueOperator) (k : ℕ) → valueWith L (conditionReader L k) (valueReader L k) o [] ≡ malformed
   unfolding literal numbered
   nothing-read opConstant k = refl
   nothing-read opProgram k = refl
@@ -190,6 +190,10 @@ tried r h x = record { found = λ f. x; none = λ z. absurd (omega arith) }
 
 pub tried-none : {F N : Type 0} → N → Tried F N 0
 tried-none x = record { found = λ f. absurd (f refl); none = λ z. x }
+
+-- of an operand, what holds where a call gave it and where it was found
+pub either-way : {A B N : Type 0} (P : ℕ → Type 0) (l a : ℕ) → Tried (P l) N l → A ⊎ B → (A → P a) → (B → (l ≡ 0 → ⊥) × (a ≡ l)) → P a
+either-way P l a x c f g = ⊎-elim f (λ w. subst P (sym (g w .1)) (x .found (g w .0))) c
 
 -- constants and variables at a place
 open-to : (s : List ℕ) (a b : ℕ) → a + 1 ≡ b → a < length s → drop a s ≡ getD s a 0 ∷ drop b s
@@ -278,6 +282,6 @@ module _ (L : Lent) (s : List ℕ) (at : ℕ) where
   pub as-leaf : (next r : ℕ) → EndTried s next r → Skips (valueReader L) s at next → LeafSkipped L s at r
   as-leaf next r t x = record { found = λ f. rw (t .found f) x; none = λ z n. rw (t .none z) at x }
 
-  -- an operand, whether it was passed over here or by a call
+  -- an operand that was passed over by a call or without
   pub operand : {A B : Type 0} (l a : ℕ) → LeafSkipped L s at l → A ⊎ B → (A → Skips (valueReader L) s at a) → (B → (l ≡ 0 → ⊥) × (a ≡ l)) → Skips (valueReader L) s at a
-  operand l a x c f g = ⊎-elim f (λ w. rw (g w .1) (x .found (g w .0))) c
+  operand l a x c f g = either-way (Skips (valueReader L) s at) l a x c f g

@@ -1,5 +1,6 @@
 // Evaluating conditions and values over operator-first bytes. A result holds the place behind what
 // was read, one past the end where it is malformed, and its truth or word beside it in one number.
+// p, m and k are the lent values: present program values, monitor variables, values kept at entry.
 
 ghost use mathlib.Core.Path.{_≡_};
 ghost use Prim.Native.Nat.{_+_, _/_, _%_, _^_, _≤_, _<_};
@@ -10,7 +11,7 @@ ghost use Rattle.condition.specs.Walk.{Evaluates, conditionReader, value
 use crate::skip;
 use crate::word;
 
-// How many words there are: the place stands above the word.
+// How many words there are: a result is its place times W, and its word.
 const W: usize = 4294967296;
 
 pub(crate) fn condition(s: &&[u8], at: usize, p: &&[u32], m: &&[u32], k: &&[u32]) -> usize
@@ -99,8 +100,8 @@ pub(crate) fn value(s: &&[u8], at: usize, p: &&[u32], m: &&[u32], k: &&[u32]) ->
     }
 }
 
-// A constant or a variable, which take no call of their own; 0, which is no result, where there is
-// none.
+// A constant or a variable, read without the cost of a recursive call; 0, which no result is, where
+// there is none.
 fn leaf(s: &&[u8], at: usize, p: &&[u32], m: &&[u32], k: &&[u32]) -> usize
     requires { ⌜ (length (now (now s)) ≤ 65535) × (at < 2 ^ 32) ⌝ }
     ensures { λ r. ⌜ LeafEvaluated (environment (now (now (p .entry))) (now (now (m .entry))) (now (now (k .entry)))) (now (now (s .entry))) at r ⌝ }

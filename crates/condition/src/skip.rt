@@ -59,8 +59,8 @@ pub(crate) fn value(s: &&[u8], at: usize, p: usize, m: usize, k: usize) -> usize
     }
 }
 
-// The place behind a constant or a variable, which need no call; 0, which is behind nothing, where
-// there is none.
+// The place behind a constant or a variable, without the cost of a recursive call; 0, which is
+// behind nothing, where there is none.
 fn leaf(s: &&[u8], at: usize, p: usize, m: usize, k: usize) -> usize
     requires { ⌜ (length (now (now s)) ≤ 65535) × (at ≤ length (now (now s)) + 1) ⌝ }
     ensures { λ r. ⌜ LeafSkipped (lentOf p m k) (now (now (s .entry))) at r ⌝ }
