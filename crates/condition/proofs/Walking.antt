@@ -3,6 +3,7 @@
 use mathlib.Core.Path.{_≡_, refl, sym, ap, subst, _∙_}
 use mathlib.Core.Bool.{Bool, true, false, cond}
 use mathlib.Core.List.{List, [], _∷_}
+use mathlib.Core.Logic.{_⊎_, inl, inr, ⊎-elim}
 use Prim.Native.Nat.{ℕ, zero, suc, _+_, _-_, _≤_, _<_}
 use native.Mathlib.Numerals.{add-one}
 use native.Mathlib.Omega.{arith}
@@ -13,7 +14,7 @@ use lib.Seq.{drop-cons}
 use Rattle.condition.specs.declared.Lent.{Lent}
 use Rattle.condition.specs.Tree.{Variable, program, monitor, atEntry, Condition, negation, both, either, less, equal, within, Value, constant, variable, plus, minus, choose}
 use Rattle.condition.specs.Parse.{isLent, literal, numbered, Parsed, malformed, parsed, Reader, andThen, one, two, three, ConditionOperator, opTrue, opNot, opAnd, opOr, opLess, opEqual, opWithin, noCondition, conditionOperator, conditionWith, ValueOperator, opConstant, opProgram, opMonitor, opAtEntry, opPlus, opMinus, opChoose, noValue, valueOperator, valueWith, conditionFrom, valueFrom}
-use Rattle.condition.specs.Walk.{Ends, Skips, Gives, conditionReader, valueReader, literalEnd, variableEnd}
+use Rattle.condition.specs.Walk.{Ends, Skips, Gives, conditionReader, valueReader, literalEnd, variableEnd, Tried, EndTried, LeafSkipped}
 
 pub open-at : (s : List ℕ) (at : ℕ) → at < length s → drop at s ≡ getD s at 0 ∷ drop (at + 1) s
 open-at s at h = rw add-one (drop-cons s at 0 h)
@@ -68,6 +69,13 @@ module _ {A B C D : Type 0} (R : ℕ → Reader A) (S : ℕ → Reader B) (T : �
       ends-then s q r (R k (drop at s)) (λ a rest. two (S k) (T k) (f a) rest) (x .ends k d) (omega (arith, y .low, z .low)) (z .high)
       (λ a rest e. subst (λ (t : List ℕ). Ends s r (two (S k) (T k) (f a) t)) e (ends-two S T s q u r y z (f a) k (omega (arith, x .low))))
 
+one-of-two : (n a : ℕ) → a ≤ n → n ≤ a + 1 → (n ≡ a) ⊎ (n ≡ a + 1)
+one-of-two n a i j = go (ltb a n) refl
+  where
+    go : (b : Bool) → ltb a n ≡ b → (n ≡ a) ⊎ (n ≡ a + 1)
+    go true e = let h = ltb-true a n e in inr (omega arith)
+    go false e = let h = ltb-false a n e in inl (omega arith)
+
 -- where a condition or a value ends, from where its operands end
 module _ (L : Lent) (s : List ℕ) (at : ℕ) (h : at < length s) where
   pub condition-skips : (o : ConditionOperator) (r : ℕ) → conditionOperator (getD s at 0) ≡ o → at ≤ r → r ≤ length s + 1 → ((k : ℕ) → length s - (at + 1) ≤ k → Ends s r (conditionWith (conditionReader L k) (valueReader L k) o (drop (at + 1) s))) → Skips (conditionReader L) s at r
@@ -108,21 +116,28 @@ module _ (L : Lent) (s : List ℕ) (at : ℕ) (h : at < length s) where
     skips-or e = condition-two (conditionReader L) (conditionReader L) q r x y either opOr (λ k t. refl) (ap conditionOperator e)
 
   module _ (q r : ℕ) (x : Skips (valueReader L) s (at + 1) q) (y : Skips (valueReader L) s q r) where
-    pub skips-less : getD s at 0 ≡ 4 → Skips (conditionReader L) s at r
+    skips-less : getD s at 0 ≡ 4 → Skips (conditionReader L) s at r
     unfolding conditionOperator
     skips-less e = condition-two (valueReader L) (valueReader L) q r x y less opLess (λ k t. refl) (ap conditionOperator e)
 
-    pub skips-equal : getD s at 0 ≡ 5 → Skips (conditionReader L) s at r
+    skips-equal : getD s at 0 ≡ 5 → Skips (conditionReader L) s at r
     unfolding conditionOperator
     skips-equal e = condition-two (valueReader L) (valueReader L) q r x y equal opEqual (λ k t. refl) (ap conditionOperator e)
 
-    pub skips-plus : getD s at 0 ≡ 20 → Skips (valueReader L) s at r
+    skips-plus : getD s at 0 ≡ 20 → Skips (valueReader L) s at r
     unfolding valueOperator
     skips-plus e = value-two (valueReader L) (valueReader L) q r x y plus opPlus (λ k t. refl) (ap valueOperator e)
 
-    pub skips-minus : getD s at 0 ≡ 21 → Skips (valueReader L) s at r
+    skips-minus : getD s at 0 ≡ 21 → Skips (valueReader L) s at r
     unfolding valueOperator
     skips-minus e = value-two (valueReader L) (valueReader L) q r x y minus opMinus (λ k t. refl) (ap valueOperator e)
+
+    -- either of two operators that stand side by side
+    pub skips-compared : 4 ≤ getD s at 0 → getD s at 0 < 6 → Skips (conditionReader L) s at r
+    skips-compared i j = ⊎-elim skips-less skips-equal (one-of-two (getD s at 0) 4 i (omega arith))
+
+    pub skips-joined : 20 ≤ getD s at 0 → getD s at 0 < 22 → Skips (valueReader L) s at r
+    skips-joined i j = ⊎-elim skips-plus skips-minus (one-of-two (getD s at 0) 20 i (omega arith))
 
   module _ (q u r : ℕ) (y : Skips (valueReader L) s q u) (z : Skips (valueReader L) s u r) where
     pub skips-within : getD s at 0 ≡ 6 → Skips (valueReader L) s (at + 1) q → Skips (conditionReader L) s at r
@@ -139,6 +154,26 @@ module _ (L : Lent) (s : List ℕ) (at : ℕ) (h : at < length s) where
   pub skips-no-value : valueOperator (getD s at 0) ≡ noValue → Skips (valueReader L) s at (length s + 1)
   skips-no-value e = value-skips noValue (length s + 1) e (omega arith) (omega arith) (λ k d. refl)
 
+  -- a value takes two bytes
+  nothing-read : (o : ValueOperator) (k : ℕ) → valueWith L (conditionReader L k) (valueReader L k) o [] ≡ malformed
+  unfolding literal numbered
+  nothing-read opConstant k = refl
+  nothing-read opProgram k = refl
+  nothing-read opMonitor k = refl
+  nothing-read opAtEntry k = refl
+  nothing-read opPlus k = rw (value-nil L k)
+  nothing-read opMinus k = rw (value-nil L k)
+  nothing-read opChoose k = rw (condition-nil L k)
+  nothing-read noValue k = refl
+
+  pub none-short : (P : Parsed Value → Type 0) → P malformed → (o : ValueOperator) → length s ≤ at + 1 → (k : ℕ) → P (valueWith L (conditionReader L k) (valueReader L k) o (drop (at + 1) s))
+  none-short P x o g k = none-past Value (λ k t. valueWith L (conditionReader L k) (valueReader L k) o t) (nothing-read o) s (at + 1) P x g k
+
+  pub skips-short : length s ≤ at + 1 → Skips (valueReader L) s at (length s + 1)
+  skips-short g =
+      let o = valueOperator (getD s at 0) in
+      value-skips o (length s + 1) refl (omega arith) (omega arith) (λ k d. none-short (Ends s (length s + 1)) refl o g k)
+
 -- a byte that is no operator
 module _ (o : ℕ) where
   pub no-condition : (o ≡ 0 → ⊥) → (o ≡ 1 → ⊥) → (o ≡ 2 → ⊥) → (o ≡ 3 → ⊥) → (o ≡ 4 → ⊥) → (o ≡ 5 → ⊥) → (o ≡ 6 → ⊥) → conditionOperator o ≡ noCondition
@@ -148,6 +183,17 @@ module _ (o : ℕ) where
   pub no-value : (o ≡ 16 → ⊥) → (o ≡ 17 → ⊥) → (o ≡ 18 → ⊥) → (o ≡ 19 → ⊥) → (o ≡ 20 → ⊥) → (o ≡ 21 → ⊥) → (o ≡ 22 → ⊥) → valueOperator o ≡ noValue
   unfolding valueOperator
   no-value a b c d e f g = rw (ne-eqb o 16 a, ne-eqb o 17 b, ne-eqb o 18 c, ne-eqb o 19 d, ne-eqb o 20 e, ne-eqb o 21 f, ne-eqb o 22 g)
+
+-- what was tried, found or not
+pub tried : {F N : Type 0} (r : ℕ) → 0 < r → F → Tried F N r
+tried r h x = record { found = λ f. x; none = λ z. absurd (omega arith) }
+
+pub tried-none : {F N : Type 0} → N → Tried F N 0
+tried-none x = record { found = λ f. absurd (f refl); none = λ z. x }
+
+-- of an operand, what holds where a call gave it and where it was found
+pub either-way : {A B N : Type 0} (P : ℕ → Type 0) (l a : ℕ) → Tried (P l) N l → A ⊎ B → (A → P a) → (B → (l ≡ 0 → ⊥) × (a ≡ l)) → P a
+either-way P l a x c f g = ⊎-elim f (λ w. subst P (sym (g w .1)) (x .found (g w .0))) c
 
 -- constants and variables at a place
 open-to : (s : List ℕ) (a b : ℕ) → a + 1 ≡ b → a < length s → drop a s ≡ getD s a 0 ∷ drop b s
@@ -224,3 +270,18 @@ module _ (L : Lent) (s : List ℕ) (at : ℕ) (h : at < length s) where
   pub skips-entry : (r : ℕ) → getD s at 0 ≡ 19 → r ≡ variableEnd s at (L .kept) → Skips (valueReader L) s at r
   unfolding valueOperator isLent
   skips-entry r e f = skips-variable atEntry opAtEntry (L .kept) r (λ i. refl) (λ k t. refl) (ap valueOperator e) f
+
+-- what is passed over without a call
+module _ (L : Lent) (s : List ℕ) (at : ℕ) where
+  pub leaf-short : length s ≤ at + 1 → LeafSkipped L s at 0
+  leaf-short g = tried-none (λ n. skips-short L s at (n .0) g)
+
+  pub leaf-none : (getD s at 0 ≡ 16 → ⊥) → (getD s at 0 ≡ 17 → ⊥) → (getD s at 0 ≡ 18 → ⊥) → (getD s at 0 ≡ 19 → ⊥) → LeafSkipped L s at 0
+  leaf-none e f g i = tried-none (λ n. skips-no-value L s at (n .0) (no-value (getD s at 0) e f g i (n .1 .0) (n .1 .1 .0) (n .1 .1 .1)))
+
+  pub as-leaf : (next r : ℕ) → EndTried s next r → Skips (valueReader L) s at next → LeafSkipped L s at r
+  as-leaf next r t x = record { found = λ f. rw (t .found f) x; none = λ z n. rw (t .none z) at x }
+
+  -- an operand that was passed over by a call or without
+  pub operand : {A B : Type 0} (l a : ℕ) → LeafSkipped L s at l → A ⊎ B → (A → Skips (valueReader L) s at a) → (B → (l ≡ 0 → ⊥) × (a ≡ l)) → Skips (valueReader L) s at a
+  operand l a x c f g = either-way (Skips (valueReader L) s at) l a x c f g

@@ -78,6 +78,29 @@ literalAt s at = cond (leb (at + 5) (length s)) (bigEndian (getD s (at + 1) 0) (
 abbrev pub variableAt : List ℕ → ℕ → List ℕ → ℕ
 variableAt s at values = cond (ltb (at + 1) (length s)) (cond (ltb (getD s (at + 1) 0) (length values)) (getD values (getD s (at + 1) 0) 0) 0) 0
 
+-- What a number that is 0 where nothing was found promises, found or not.
+pub record Tried (Found None : Type 0) (r : ℕ) : Type 0 where
+  pub found : (r ≡ 0 → ⊥) → Found
+  pub none : r ≡ 0 → None
+
+-- a place, and a place and a word, which are one past the end, and 0, where there are none
+abbrev pub EndTried : List ℕ → ℕ → ℕ → Type 0
+EndTried s next r = Tried (r ≡ next) (next ≡ length s + 1) r
+
+abbrev pub WordTried : List ℕ → ℕ → ℕ → ℕ → Type 0
+WordTried s next w r = Tried (Packed next w r) ((next ≡ length s + 1) × (w ≡ 0)) r
+
+-- There is a byte at the place, and it is not the operator of a value that has operands.
+abbrev pub NoOperands : List ℕ → ℕ → Type 0
+NoOperands s at = (at < length s) × ((getD s at 0 ≡ 20 → ⊥) × ((getD s at 0 ≡ 21 → ⊥) × (getD s at 0 ≡ 22 → ⊥)))
+
+-- A constant or a variable at a place, passed over and evaluated. Where there is none, no value is there unless it has operands.
+abbrev pub LeafSkipped : Lent → List ℕ → ℕ → ℕ → Type 0
+LeafSkipped L s at r = Tried (Skips (valueReader L) s at r) (NoOperands s at → Skips (valueReader L) s at (length s + 1)) r
+
+abbrev pub LeafEvaluated : Environment → List ℕ → ℕ → ℕ → Type 0
+LeafEvaluated E s at r = Tried (Evaluates (valueReader (lent E)) (valueWord E) s at (r / 2 ^ 32) (r % 2 ^ 32)) (NoOperands s at → Evaluates (valueReader (lent E)) (valueWord E) s at (length s + 1) 0) r
+
 abbrev pub negated : ℕ → Bool
 negated n = eqb n 0
 

@@ -4,7 +4,7 @@
 ghost use mathlib.Core.Path.{_≡_};
 ghost use Prim.Native.Nat.{_+_, _≤_, _<_};
 ghost use lib.ListN.{length};
-ghost use Rattle.condition.specs.Walk.{Skips, conditionReader, valueReader, lentOf, literalEnd, variableEnd};
+ghost use Rattle.condition.specs.Walk.{Skips, conditionReader, valueReader, lentOf, literalEnd, variableEnd, EndTried, LeafSkipped};
 use crate::word::wide;
 
 pub(crate) fn condition(s: &&[u8], at: usize, p: usize, m: usize, k: usize) -> usize
@@ -19,10 +19,14 @@ pub(crate) fn condition(s: &&[u8], at: usize, p: usize, m: usize, k: usize) -> u
         1 => condition(s, at + 1, p, m, k),
         2 => condition(s, condition(s, at + 1, p, m, k), p, m, k),
         3 => condition(s, condition(s, at + 1, p, m, k), p, m, k),
-        4 => value(s, value(s, at + 1, p, m, k), p, m, k),
-        5 => value(s, value(s, at + 1, p, m, k), p, m, k),
+        4 | 5 => {
+            let l = leaf(s, at + 1, p, m, k);
+            let next = if l == 0 { value(s, at + 1, p, m, k) } else { l };
+            value(s, next, p, m, k)
+        }
         6 => {
-            let next = value(s, at + 1, p, m, k);
+            let l = leaf(s, at + 1, p, m, k);
+            let next = if l == 0 { value(s, at + 1, p, m, k) } else { l };
             let last = value(s, next, p, m, k);
             value(s, last, p, m, k)
         }
@@ -38,42 +42,53 @@ pub(crate) fn value(s: &&[u8], at: usize, p: usize, m: usize, k: usize) -> usize
         return s.len() + 1;
     }
     match s[at] {
-        16 => literal(s, at),
-        17 => variable(s, at, p),
-        18 => variable(s, at, m),
-        19 => variable(s, at, k),
-        20 => value(s, value(s, at + 1, p, m, k), p, m, k),
-        21 => value(s, value(s, at + 1, p, m, k), p, m, k),
+        20 | 21 => {
+            let l = leaf(s, at + 1, p, m, k);
+            let next = if l == 0 { value(s, at + 1, p, m, k) } else { l };
+            value(s, next, p, m, k)
+        }
         22 => {
             let next = condition(s, at + 1, p, m, k);
             let last = value(s, next, p, m, k);
             value(s, last, p, m, k)
         }
-        _ => s.len() + 1,
-    }
-}
-
-// The place behind the four bytes that follow `at`.
-fn literal(s: &&[u8], at: usize) -> usize
-    requires { ⌜ (length (now (now s)) ≤ 65535) × (at < length (now (now s))) ⌝ }
-    ensures { λ r. ⌜ r ≡ literalEnd (now (now (s .entry))) at ⌝ }
-{
-    if at + 5 <= s.len() {
-        at + 5
-    } else {
-        s.len() + 1
-    }
-}
-
-// The place behind the variable's number that follows `at`, which is below `limit`.
-fn variable(s: &&[u8], at: usize, limit: usize) -> usize
-    requires { ⌜ (length (now (now s)) ≤ 65535) × (at < length (now (now s))) ⌝ }
-    ensures { λ r. ⌜ r ≡ variableEnd (now (now (s .entry))) at limit ⌝ }
-{
-    if at + 1 < s.len() {
-        if wide(s[at + 1]) < limit {
-            return at + 2;
+        _ => {
+            let l = leaf(s, at, p, m, k);
+            if l == 0 { s.len() + 1 } else { l }
         }
     }
-    s.len() + 1
+}
+
+// The place behind a constant or a variable, without the cost of a recursive call; 0, which is
+// behind nothing, where there is none.
+fn leaf(s: &&[u8], at: usize, p: usize, m: usize, k: usize) -> usize
+    requires { ⌜ (length (now (now s)) ≤ 65535) × (at ≤ length (now (now s)) + 1) ⌝ }
+    ensures { λ r. ⌜ LeafSkipped (lentOf p m k) (now (now (s .entry))) at r ⌝ }
+{
+    if at + 1 < s.len() {} else {
+        return 0;
+    }
+    match s[at] {
+        16 => literal(s, at),
+        17 => variable(s, at, p),
+        18 => variable(s, at, m),
+        19 => variable(s, at, k),
+        _ => 0,
+    }
+}
+
+// The place behind the four bytes that follow `at`; 0 where there are fewer.
+fn literal(s: &&[u8], at: usize) -> usize
+    requires { ⌜ (length (now (now s)) ≤ 65535) × (at < length (now (now s))) ⌝ }
+    ensures { λ r. ⌜ EndTried (now (now (s .entry))) (literalEnd (now (now (s .entry))) at) r ⌝ }
+{
+    if at + 5 <= s.len() { at + 5 } else { 0 }
+}
+
+// The place behind the variable's number that follows `at`; 0 where it is not below `limit`.
+fn variable(s: &&[u8], at: usize, limit: usize) -> usize
+    requires { ⌜ (length (now (now s)) ≤ 65535) × (at + 1 < length (now (now s))) ⌝ }
+    ensures { λ r. ⌜ EndTried (now (now (s .entry))) (variableEnd (now (now (s .entry))) at limit) r ⌝ }
+{
+    if wide(s[at + 1]) < limit { at + 2 } else { 0 }
 }

@@ -4,8 +4,8 @@ use Prim.Native.Nat.{ℕ, _-_, _<_}
 use native.Mathlib.Omega.{arith}
 use borrow.Author.Needs.{needs}
 use lib.ListN.{length}
-use Rattle.condition.proofs.Walking.{no-condition, no-value}
-use Rattle.condition.proofs.Evaluating.{as-judged, as-packed, condition-past, value-past, evaluates-true, evaluates-not, and-right, and-left, or-right, or-left, evaluates-less, evaluates-equal, evaluates-within, no-condition-there, evaluates-literal, evaluates-program, evaluates-monitor, evaluates-entry, evaluates-plus, evaluates-minus, choose-left, choose-right, no-value-there}
+use Rattle.condition.proofs.Walking.{no-condition}
+use Rattle.condition.proofs.Evaluating.{as-judged, as-packed, condition-past, value-past, evaluates-true, evaluates-not, and-right, and-left, or-right, or-left, evaluates-less, evaluates-equal, evaluates-within, no-condition-there, evaluates-plus, evaluates-minus, choose-left, choose-right, operand}
 use borrow.Fn.Kinds.{In}
 use borrow.Fn.PlainCycle.{Measures, is, falls, and}
 use Rattle.condition.proofs.evaluate.condition.Reads as condition
@@ -16,13 +16,12 @@ use Rattle.condition.proofs.evaluate.value.Kinds as value-kinds
 use Rattle.condition.proofs.evaluate.+condition+value.Lts-value as value-lts
 use Rattle.condition.proofs.evaluate.equal.Reads as equal-reads
 use Rattle.condition.proofs.evaluate.judged.Reads as judged-reads
+use Rattle.condition.proofs.evaluate.leaf.Reads as leaf-reads
 use Rattle.condition.proofs.evaluate.less.Reads as less-reads
-use Rattle.condition.proofs.evaluate.literal.Reads as literal-reads
 use Rattle.condition.proofs.evaluate.minus.Reads as minus-reads
 use Rattle.condition.proofs.evaluate.negate.Reads as negate-reads
 use Rattle.condition.proofs.evaluate.packed.Reads as packed-reads
 use Rattle.condition.proofs.evaluate.plus.Reads as plus-reads
-use Rattle.condition.proofs.evaluate.variable.Reads as variable-reads
 use Rattle.condition.proofs.evaluate.within.Reads as within-reads
 use Rattle.condition.proofs.evaluate.word_of.Reads as word-of-reads
 use Rattle.condition.proofs.skip.condition.Reads as condition-reads
@@ -50,24 +49,30 @@ abbrev value-below : ℕ → In 8 value-kinds.ps
 value-below t = and 8 value-kinds.ps (falls 8 value-kinds.ps _<_ μ-value t) value.Pre
 
 pub +condition+value-spec : {M : Type 1} → statement M
-+condition+value-spec = close μ-condition μ-value (λ t. condition-lts.spec (
-  judged-reads.Asked,
-  judged-reads.Learnt,
-  condition-below t,
-  condition.Post,
-  negate-reads.Asked,
-  negate-reads.Learnt,
-  condition-reads.Asked,
-  condition-reads.Learnt,
-  value-below t,
-  value.Post,
-  less-reads.Asked,
-  less-reads.Learnt,
-  equal-reads.Asked,
-  equal-reads.Learnt,
-  within-reads.Asked,
-  within-reads.Learnt,
-)
++condition+value-spec =
+    close
+    μ-condition
+    μ-value
+    (λ t. condition-lts.spec (
+      judged-reads.Asked,
+      judged-reads.Learnt,
+      condition-below t,
+      condition.Post,
+      negate-reads.Asked,
+      negate-reads.Learnt,
+      condition-reads.Asked,
+      condition-reads.Learnt,
+      leaf-reads.Asked,
+      leaf-reads.Learnt,
+      value-below t,
+      value.Post,
+      less-reads.Asked,
+      less-reads.Learnt,
+      equal-reads.Asked,
+      equal-reads.Learnt,
+      within-reads.Asked,
+      within-reads.Learnt,
+    )
     (condition-at t)
     condition.Post
     (λ c. search needs)
@@ -91,16 +96,16 @@ pub +condition+value-spec : {M : Type 1} → statement M
     (λ c κs. omega arith)
     (λ c. search needs)
     (λ c κs. omega arith)
-    (λ c κs. omega arith)
-    (λ c κs. omega arith)
     (λ c. search needs)
     (λ c κs. omega arith)
     (λ c κs. omega arith)
+    (λ c κs. let x = operand _ _ _ _ (c .before .before .before .if5 .a) (c .before .before .before .before .leaf .ensures) (c .before .before .before .if5 .came) (λ w. rw (w .2) (w .1 .ensures)) (λ w. (w .0 .left, w .1)) in omega (arith, x .skips .low, x .skips .high))
     (λ c κs. omega arith)
-    (λ c. search needs)
+    (λ c. as-judged _ _ _ _ _ _ (c .less .ensures) (evaluates-less _ _ _ (c .before .before .before .before .before .before .before .before .before .before .if1 .taken) _ _ _ _ (operand _ _ _ _ (c .before .before .before .before .before .if5 .a) (c .before .before .before .before .before .before .leaf .ensures) (c .before .before .before .before .before .if5 .came) (λ w. rw (w .2) (w .1 .ensures)) (λ w. (w .0 .left, w .1))) (operand _ _ _ _ (c .before .before .if6 .b) (c .before .before .before .leaf2 .ensures) (c .before .before .if6 .came) (λ w. rw (w .2) (w .1 .ensures)) (λ w. (w .0 .left, w .1))) (c .before .if7 .taken)))
     (λ c κs. omega arith)
+    (λ c. as-judged _ _ _ _ _ _ (c .equal .ensures) (evaluates-equal _ _ _ (c .before .before .before .before .before .before .before .before .before .before .before .if1 .taken) _ _ _ _ (operand _ _ _ _ (c .before .before .before .before .before .before .if5 .a) (c .before .before .before .before .before .before .before .leaf .ensures) (c .before .before .before .before .before .before .if5 .came) (λ w. rw (w .2) (w .1 .ensures)) (λ w. (w .0 .left, w .1))) (operand _ _ _ _ (c .before .before .before .if6 .b) (c .before .before .before .before .leaf2 .ensures) (c .before .before .before .if6 .came) (λ w. rw (w .2) (w .1 .ensures)) (λ w. (w .0 .left, w .1))) (c .before .if8 .taken)))
     (λ c κs. omega arith)
-    (λ c κs. omega arith)
+    (λ c κs. let x = operand _ _ _ _ (c .before .before .before .before .before .before .before .before .if5 .a) (c .before .before .before .before .before .before .before .before .before .leaf .ensures) (c .before .before .before .before .before .before .before .before .if5 .came) (λ w. rw (w .2) (w .1 .ensures)) (λ w. (w .0 .left, w .1)) in let y = operand _ _ _ _ (c .before .before .before .before .before .if6 .b) (c .before .before .before .before .before .before .leaf2 .ensures) (c .before .before .before .before .before .if6 .came) (λ w. rw (w .2) (w .1 .ensures)) (λ w. (w .0 .left, w .1)) in omega (arith, x .skips .low, y .skips .low, y .skips .high))
     (λ c κs. omega arith)
     (λ c. search needs)
     (λ c κs. omega arith)
@@ -110,17 +115,13 @@ pub +condition+value-spec : {M : Type 1} → statement M
     (λ c. as-judged _ _ _ _ _ _ (c .judged3 .ensures) (and-left _ _ _ (c .before .before .before .before .before .before .if1 .taken) _ _ _ (c .before .before .before .condition2 .ensures) (c .before .before .before .before .match .keys3) (c .before .before .if2 .left) (c .before .condition4 .ensures)))
     (λ c. as-judged _ _ _ _ _ _ (c .judged4 .ensures) (or-left _ _ _ (c .before .before .before .before .before .before .if1 .taken) _ _ _ (c .before .before .before .condition5 .ensures) (c .before .before .before .before .match .keys4) (c .before .before .if3 .taken) (c .before .condition6 .ensures)))
     (λ c. or-right _ _ _ (c .before .before .before .before .before .if1 .taken) _ _ _ (c .before .before .condition5 .ensures) _ (c .before .before .before .match .keys4) (c .before .if3 .left) (c .condition7 .ensures))
-    (λ c. as-judged _ _ _ _ _ _ (c .less .ensures) (evaluates-less _ _ _ (c .before .before .before .before .before .if1 .taken) _ _ _ _ (c .before .before .value .ensures) (c .before .value2 .ensures) (c .before .before .before .match .keys5)))
-    (λ c. as-judged _ _ _ _ _ _ (c .equal .ensures) (evaluates-equal _ _ _ (c .before .before .before .before .before .if1 .taken) _ _ _ _ (c .before .before .value3 .ensures) (c .before .value4 .ensures) (c .before .before .before .match .keys6)))
-    (λ c. as-judged _ _ _ _ _ _ (c .within .ensures) (evaluates-within _ _ _ (c .before .before .before .before .before .before .if1 .taken) _ _ _ _ (c .before .before .before .value5 .ensures) (c .before .before .value6 .ensures) _ _ (c .before .before .before .before .match .keys7) (c .before .value7 .ensures)))
-    (λ c. as-judged _ _ _ _ _ _ (c .judged5 .ensures) (no-condition-there _ _ _ (c .before .before .before .if1 .taken) (no-condition _ (c .before .match .rest .0 .0 .0 .0 .0 .0 .1) (c .before .match .rest .0 .0 .0 .0 .0 .1) (c .before .match .rest .0 .0 .0 .0 .1) (c .before .match .rest .0 .0 .0 .1) (c .before .match .rest .0 .0 .1) (c .before .match .rest .0 .1) (c .before .match .rest .1)))))
+    (λ c. as-judged _ _ _ _ _ _ (c .within .ensures) (evaluates-within _ _ _ (c .before .before .before .before .before .before .before .before .before .before .before .before .before .before .if1 .taken) _ _ _ _ (operand _ _ _ _ (c .before .before .before .before .before .before .before .before .before .if5 .a) (c .before .before .before .before .before .before .before .before .before .before .leaf .ensures) (c .before .before .before .before .before .before .before .before .before .if5 .came) (λ w. rw (w .2) (w .1 .ensures)) (λ w. (w .0 .left, w .1))) (operand _ _ _ _ (c .before .before .before .before .before .before .if6 .b) (c .before .before .before .before .before .before .before .leaf2 .ensures) (c .before .before .before .before .before .before .if6 .came) (λ w. rw (w .2) (w .1 .ensures)) (λ w. (w .0 .left, w .1))) _ _ (omega arith) (operand _ _ _ _ (c .before .if9 .t) (c .before .before .leaf3 .ensures) (c .before .if9 .came) (λ w. rw (w .2) (w .1 .ensures)) (λ w. (w .0 .left, w .1)))))
+    (λ c. as-judged _ _ _ _ _ _ (c .judged5 .ensures) (no-condition-there _ _ _ (c .before .before .before .before .if1 .taken) (no-condition _ (c .before .before .match .rest .0 .0 .0 .1) (c .before .before .match .rest .0 .0 .1) (c .before .before .match .rest .0 .1) (c .before .before .match .rest .1) (λ e. omega arith) (λ e. omega arith) (λ e. omega arith)))))
     λ t. value-lts.spec (
       packed-reads.Asked,
       packed-reads.Learnt,
-      literal-reads.Asked,
-      literal-reads.Learnt,
-      variable-reads.Asked,
-      variable-reads.Learnt,
+      leaf-reads.Asked,
+      leaf-reads.Learnt,
       value-below t,
       value.Post,
       plus-reads.Asked,
@@ -140,34 +141,34 @@ pub +condition+value-spec : {M : Type 1} → statement M
     (λ c κs. omega arith)
     (λ c. as-packed _ _ _ _ _ _ (c .packed .ensures) (value-past _ _ _ (c .before .if1 .left) (c .before .before .pre .1 .1)))
     (λ c. search needs)
+    (λ c. search needs)
+    (λ c κs. omega arith)
+    (λ c. search needs)
+    (λ c κs. omega arith)
+    (λ c κs. omega arith)
+    (λ c κs. let x = operand _ _ _ _ (c .before .before .before .if2 .a) (c .before .before .before .before .leaf .ensures) (c .before .before .before .if2 .came) (λ w. rw (w .2) (w .1 .ensures)) (λ w. (w .0 .left, w .1)) in omega (arith, x .skips .low, x .skips .high))
+    (λ c κs. omega arith)
+    (λ c. search needs)
+    (λ c κs. omega arith)
+    (λ c. search needs)
+    (λ c κs. omega arith)
+    (λ c κs. omega arith)
+    (λ c κs. let x = operand _ _ _ _ (c .before .before .before .if4 .a) (c .before .before .before .before .leaf3 .ensures) (c .before .before .before .if4 .came) (λ w. rw (w .2) (w .1 .ensures)) (λ w. (w .0 .left, w .1)) in omega (arith, x .skips .low, x .skips .high))
+    (λ c κs. omega arith)
+    (λ c. search needs)
+    (λ c κs. omega arith)
+    (λ c κs. omega arith)
+    (λ c κs. omega arith)
+    (λ c κs. omega arith)
     (λ c κs. omega arith)
     (λ c κs. omega arith)
     (λ c κs. omega arith)
     (λ c κs. omega arith)
     (λ c. search needs)
     (λ c κs. omega arith)
-    (λ c κs. omega arith)
-    (λ c κs. omega arith)
-    (λ c. search needs)
-    (λ c κs. omega arith)
-    (λ c κs. omega arith)
-    (λ c κs. omega arith)
-    (λ c. search needs)
-    (λ c κs. omega arith)
-    (λ c κs. omega arith)
-    (λ c κs. omega arith)
-    (λ c κs. omega arith)
-    (λ c κs. omega arith)
-    (λ c κs. omega arith)
-    (λ c κs. omega arith)
-    (λ c. search needs)
-    (λ c κs. omega arith)
-    (λ c. as-packed _ _ _ _ _ _ (c .literal .ensures) (evaluates-literal _ _ _ (c .before .before .before .if1 .taken) (c .before .match .keys1)))
-    (λ c. as-packed _ _ _ _ _ _ (c .variable .ensures) (evaluates-program _ _ _ (c .before .before .before .if1 .taken) (c .before .match .keys2)))
-    (λ c. as-packed _ _ _ _ _ _ (c .variable2 .ensures) (evaluates-monitor _ _ _ (c .before .before .before .if1 .taken) (c .before .match .keys3)))
-    (λ c. as-packed _ _ _ _ _ _ (c .variable3 .ensures) (evaluates-entry _ _ _ (c .before .before .before .if1 .taken) (c .before .match .keys4)))
-    (λ c. as-packed _ _ _ _ _ _ (c .plus .ensures) (evaluates-plus _ _ _ (c .before .before .before .before .before .if1 .taken) _ _ _ _ (c .before .before .value .ensures) (c .before .value2 .ensures) (c .before .before .before .match .keys5)))
-    (λ c. as-packed _ _ _ _ _ _ (c .minus .ensures) (evaluates-minus _ _ _ (c .before .before .before .before .before .if1 .taken) _ _ _ _ (c .before .before .value3 .ensures) (c .before .value4 .ensures) (c .before .before .before .match .keys6)))
-    (λ c. as-packed _ _ _ _ _ _ (rw (c .before .word-of .ensures) at (c .packed2 .ensures)) (choose-left _ _ _ (c .before .before .before .before .before .before .before .before .if1 .taken) _ _ _ _ (c .before .before .before .before .before .condition .ensures) _ (c .before .before .before .before .before .before .match .keys7) (c .before .before .before .before .if2 .taken) (c .before .before .before .value5 .ensures) (c .before .before .value6 .ensures)))
-    (λ c. choose-right _ _ _ (c .before .before .before .before .before .before .if1 .taken) _ _ _ _ (c .before .before .before .condition .ensures) _ (c .before .before .before .before .match .keys7) (c .before .before .if2 .left) (c .before .value7 .ensures) (c .value8 .ensures))
-    (λ c. as-packed _ _ _ _ _ _ (c .packed3 .ensures) (no-value-there _ _ _ (c .before .before .before .if1 .taken) (no-value _ (c .before .match .rest .0 .0 .0 .0 .0 .0 .1) (c .before .match .rest .0 .0 .0 .0 .0 .1) (c .before .match .rest .0 .0 .0 .0 .1) (c .before .match .rest .0 .0 .0 .1) (c .before .match .rest .0 .0 .1) (c .before .match .rest .0 .1) (c .before .match .rest .1))))
+    (λ c. as-packed _ _ _ _ _ _ (c .plus .ensures) (evaluates-plus _ _ _ (c .before .before .before .before .before .before .before .before .if1 .taken) _ _ _ _ (operand _ _ _ _ (c .before .before .before .before .if2 .a) (c .before .before .before .before .before .leaf .ensures) (c .before .before .before .before .if2 .came) (λ w. rw (w .2) (w .1 .ensures)) (λ w. (w .0 .left, w .1))) (operand _ _ _ _ (c .before .if3 .b) (c .before .before .leaf2 .ensures) (c .before .if3 .came) (λ w. rw (w .2) (w .1 .ensures)) (λ w. (w .0 .left, w .1))) (c .before .before .before .before .before .before .match .keys1)))
+    (λ c. as-packed _ _ _ _ _ _ (c .minus .ensures) (evaluates-minus _ _ _ (c .before .before .before .before .before .before .before .before .if1 .taken) _ _ _ _ (operand _ _ _ _ (c .before .before .before .before .if4 .a) (c .before .before .before .before .before .leaf3 .ensures) (c .before .before .before .before .if4 .came) (λ w. rw (w .2) (w .1 .ensures)) (λ w. (w .0 .left, w .1))) (operand _ _ _ _ (c .before .if5 .b) (c .before .before .leaf4 .ensures) (c .before .if5 .came) (λ w. rw (w .2) (w .1 .ensures)) (λ w. (w .0 .left, w .1))) (c .before .before .before .before .before .before .match .keys2)))
+    (λ c. as-packed _ _ _ _ _ _ (rw (c .before .word-of .ensures) at (c .packed2 .ensures)) (choose-left _ _ _ (c .before .before .before .before .before .before .before .before .if1 .taken) _ _ _ _ (c .before .before .before .before .before .condition .ensures) _ (c .before .before .before .before .before .before .match .keys3) (c .before .before .before .before .if6 .taken) (c .before .before .before .value5 .ensures) (c .before .before .value6 .ensures)))
+    (λ c. choose-right _ _ _ (c .before .before .before .before .before .before .if1 .taken) _ _ _ _ (c .before .before .before .condition .ensures) _ (c .before .before .before .before .match .keys3) (c .before .before .if6 .left) (c .before .value7 .ensures) (c .value8 .ensures))
+    (λ c. as-packed _ _ _ _ _ _ (c .packed3 .ensures) (c .before .before .leaf5 .ensures .none (c .before .if7 .taken) (c .before .before .before .before .before .if1 .taken, (c .before .before .before .match .rest .0 .0 .1, (c .before .before .before .match .rest .0 .1, c .before .before .before .match .rest .1)))))
+    (λ c. c .before .leaf5 .ensures .found (c .if7 .left))

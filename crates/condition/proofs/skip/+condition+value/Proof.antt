@@ -1,12 +1,13 @@
 -- The cycle of `skip::condition` and `skip::value` meets its contracts: the remaining length falls at each call, and each operator's
 -- arm is a law of Walking. Assumes nothing.
 use Prim.Native.Nat.{ℕ, _-_, _<_}
+use mathlib.Core.Logic.{⊎-elim}
 use native.Mathlib.Omega.{arith}
 use borrow.Author.Needs.{needs}
 use borrow.Fn.Kinds.{In}
 use borrow.Fn.PlainCycle.{Measures, is, falls, and}
 use lib.ListN.{length}
-use Rattle.condition.proofs.Walking.{condition-nil, value-nil, skips-past, skips-true, skips-not, skips-and, skips-or, skips-less, skips-equal, skips-within, skips-literal, skips-program, skips-monitor, skips-entry, skips-plus, skips-minus, skips-choose, skips-no-condition, skips-no-value, no-condition, no-value}
+use Rattle.condition.proofs.Walking.{condition-nil, value-nil, skips-past, skips-true, skips-not, skips-and, skips-or, skips-compared, skips-within, skips-joined, skips-choose, skips-no-condition, no-condition, operand}
 use Rattle.condition.specs.Tree.{Condition, Value}
 use Rattle.condition.specs.Walk.{conditionReader, valueReader}
 use Rattle.condition.proofs.skip.condition.Reads as condition
@@ -15,8 +16,7 @@ use Rattle.condition.proofs.skip.+condition+value.Lts-condition as cond
 use Rattle.condition.proofs.skip.value.Reads as value
 use Rattle.condition.proofs.skip.value.Kinds as value-kinds
 use Rattle.condition.proofs.skip.+condition+value.Lts-value as value-lts
-use Rattle.condition.proofs.skip.literal.Reads as literal-reads
-use Rattle.condition.proofs.skip.variable.Reads as variable-reads
+use Rattle.condition.proofs.skip.leaf.Reads as leaf-reads
 use Rattle.condition.proofs.skip.+condition+value.{statement}
 use Rattle.condition.proofs.skip.+condition+value.Tie.{close}
 
@@ -42,7 +42,7 @@ value-below t = and 2 value-kinds.ps (falls 2 value-kinds.ps _<_ μ-value t) val
 pub +condition+value-spec : {M : Type 1} → statement M
 +condition+value-spec =
     close μ-condition μ-value
-    (λ t. condition-lts.spec (condition-below t, condition.Post, value-below t, value.Post) (condition-at t) condition.Post
+    (λ t. condition-lts.spec (condition-below t, condition.Post, leaf-reads.Asked, leaf-reads.Learnt, value-below t, value.Post) (condition-at t) condition.Post
     (λ c. search needs)
     (λ c. skips-past Condition (conditionReader _) (condition-nil _) _ _ (c .if1 .left) (c .before .pre .1 .1))
     (λ c. search needs)
@@ -57,47 +57,39 @@ pub +condition+value-spec : {M : Type 1} → statement M
     (λ c κs. omega arith)
     (λ c. search needs)
     (λ c κs. omega arith)
+    (λ c. search needs)
+    (λ c κs. omega arith)
+    (λ c κs. let x = operand _ _ _ _ (c .if2 .next) (c .before .leaf .ensures) (c .if2 .came) (λ w. rw (w .2) (w .1 .ensures)) (λ w. (w .0 .left, w .1)) in omega (arith, x .low, x .high))
+    (λ c κs. let x = operand _ _ _ _ (c .before .if2 .next) (c .before .before .leaf .ensures) (c .before .if2 .came) (λ w. rw (w .2) (w .1 .ensures)) (λ w. (w .0 .left, w .1)) in omega (arith, x .low))
+    (λ c. search needs)
     (λ c κs. omega arith)
     (λ c. search needs)
     (λ c κs. omega arith)
-    (λ c κs. omega arith)
-    (λ c. search needs)
-    (λ c κs. omega arith)
-    (λ c κs. omega arith)
-    (λ c κs. omega arith)
+    (λ c κs. let x = operand _ _ _ _ (c .if4 .next) (c .before .leaf2 .ensures) (c .if4 .came) (λ w. rw (w .2) (w .1 .ensures)) (λ w. (w .0 .left, w .1)) in omega (arith, x .low, x .high))
     (λ c. search needs)
     (λ c. skips-true _ _ _ (c .before .before .if1 .taken) (c .match .keys1))
     (λ c. skips-not _ _ _ (c .before .before .before .if1 .taken) _ (c .before .match .keys2) (c .condition .ensures))
     (λ c. skips-and _ _ _ (c .before .before .before .before .if1 .taken) _ _ (c .before .condition2 .ensures) (c .condition3 .ensures) (c .before .before .match .keys3))
     (λ c. skips-or _ _ _ (c .before .before .before .before .if1 .taken) _ _ (c .before .condition4 .ensures) (c .condition5 .ensures) (c .before .before .match .keys4))
-    (λ c. skips-less _ _ _ (c .before .before .before .before .if1 .taken) _ _ (c .before .value .ensures) (c .value2 .ensures) (c .before .before .match .keys5))
-    (λ c. skips-equal _ _ _ (c .before .before .before .before .if1 .taken) _ _ (c .before .value3 .ensures) (c .value4 .ensures) (c .before .before .match .keys6))
-    (λ c. skips-within _ _ _ (c .before .before .before .before .before .if1 .taken) _ _ _ (c .before .value6 .ensures) (c .value7 .ensures) (c .before .before .before .match .keys7) (c .before .before .value5 .ensures))
-    (λ c. skips-no-condition _ _ _ (c .before .before .if1 .taken) (no-condition _ (c .match .rest .0 .0 .0 .0 .0 .0 .1) (c .match .rest .0 .0 .0 .0 .0 .1) (c .match .rest .0 .0 .0 .0 .1) (c .match .rest .0 .0 .0 .1) (c .match .rest .0 .0 .1) (c .match .rest .0 .1) (c .match .rest .1))))
-    (λ t. value-lts.spec (literal-reads.Asked, literal-reads.Learnt, variable-reads.Asked, variable-reads.Learnt, value-below t, value.Post, condition-below t, condition.Post) (value-at t) value.Post
+    (λ c. skips-within _ _ _ (c .before .before .before .before .before .before .if1 .taken) _ _ _ (c .before .value2 .ensures) (c .value3 .ensures) (c .before .before .before .before .match .keys5) (operand _ _ _ _ (c .before .before .if2 .next) (c .before .before .before .leaf .ensures) (c .before .before .if2 .came) (λ w. rw (w .2) (w .1 .ensures)) (λ w. (w .0 .left, w .1))))
+    (λ c. skips-compared _ _ _ (c .before .before .before .before .before .before .if1 .taken) _ _ (operand _ _ _ _ (c .before .if4 .next) (c .before .before .leaf2 .ensures) (c .before .if4 .came) (λ w. rw (w .2) (w .1 .ensures)) (λ w. (w .0 .left, w .1))) (c .value5 .ensures) (omega arith) (c .before .before .before .if3 .taken))
+    (λ c. skips-no-condition _ _ _ (c .before .before .before .if1 .taken) (no-condition _ (c .before .match .rest .0 .0 .0 .0 .1) (c .before .match .rest .0 .0 .0 .1) (c .before .match .rest .0 .0 .1) (c .before .match .rest .0 .1) (λ e. omega arith) (λ e. omega arith) (c .before .match .rest .1))))
+    (λ t. value-lts.spec (condition-below t, condition.Post, value-below t, value.Post, leaf-reads.Asked, leaf-reads.Learnt) (value-at t) value.Post
     (λ c. search needs)
     (λ c. skips-past Value (valueReader _) (value-nil _) _ _ (c .if1 .left) (c .before .pre .1 .1))
     (λ c. search needs)
-    (λ c κs. omega arith)
-    (λ c κs. omega arith)
-    (λ c κs. omega arith)
-    (λ c κs. omega arith)
-    (λ c. search needs)
-    (λ c κs. omega arith)
-    (λ c κs. omega arith)
-    (λ c. search needs)
-    (λ c κs. omega arith)
-    (λ c κs. omega arith)
     (λ c. search needs)
     (λ c κs. omega arith)
     (λ c κs. omega arith)
     (λ c κs. omega arith)
     (λ c. search needs)
-    (λ c. skips-literal _ _ _ (c .before .before .before .if1 .taken) _ (c .before .match .keys1) (c .literal .ensures))
-    (λ c. skips-program _ _ _ (c .before .before .before .if1 .taken) _ (c .before .match .keys2) (c .variable .ensures))
-    (λ c. skips-monitor _ _ _ (c .before .before .before .if1 .taken) _ (c .before .match .keys3) (c .variable2 .ensures))
-    (λ c. skips-entry _ _ _ (c .before .before .before .if1 .taken) _ (c .before .match .keys4) (c .variable3 .ensures))
-    (λ c. skips-plus _ _ _ (c .before .before .before .before .if1 .taken) _ _ (c .before .value .ensures) (c .value2 .ensures) (c .before .before .match .keys5))
-    (λ c. skips-minus _ _ _ (c .before .before .before .before .if1 .taken) _ _ (c .before .value3 .ensures) (c .value4 .ensures) (c .before .before .match .keys6))
-    (λ c. skips-choose _ _ _ (c .before .before .before .before .before .if1 .taken) _ _ _ (c .before .value5 .ensures) (c .value6 .ensures) (c .before .before .before .match .keys7) (c .before .before .condition .ensures))
-    (λ c. skips-no-value _ _ _ (c .before .before .if1 .taken) (no-value _ (c .match .rest .0 .0 .0 .0 .0 .0 .1) (c .match .rest .0 .0 .0 .0 .0 .1) (c .match .rest .0 .0 .0 .0 .1) (c .match .rest .0 .0 .0 .1) (c .match .rest .0 .0 .1) (c .match .rest .0 .1) (c .match .rest .1))))
+    (λ c κs. omega arith)
+    (λ c. search needs)
+    (λ c κs. omega arith)
+    (λ c κs. let x = operand _ _ _ _ (c .if4 .next) (c .before .leaf .ensures) (c .if4 .came) (λ w. rw (w .2) (w .1 .ensures)) (λ w. (w .0 .left, w .1)) in omega (arith, x .low, x .high))
+    (λ c κs. omega arith)
+    (λ c. search needs)
+    (λ c. skips-choose _ _ _ (c .before .before .before .before .before .if1 .taken) _ _ _ (c .before .value .ensures) (c .value2 .ensures) (c .before .before .before .match .keys1) (c .before .before .condition .ensures))
+    (λ c. skips-joined _ _ _ (c .before .before .before .before .before .before .before .if1 .taken) _ _ (operand _ _ _ _ (c .before .if4 .next) (c .before .before .leaf .ensures) (c .before .if4 .came) (λ w. rw (w .2) (w .1 .ensures)) (λ w. (w .0 .left, w .1))) (c .value4 .ensures) (c .before .before .before .before .if2 .left) (c .before .before .before .if3 .taken))
+    (λ c. c .before .leaf2 .ensures .none (c .if5 .taken) (c .before .before .before .before .before .if1 .taken, ⊎-elim (λ w. (λ e. omega arith, (λ e. omega arith, λ e. omega arith))) (λ w. (λ e. omega arith, (λ e. omega arith, c .before .before .before .match .rest .1))) (c .before .before .if2 .came)))
+    (λ c. c .before .leaf2 .ensures .found (c .if5 .left)))

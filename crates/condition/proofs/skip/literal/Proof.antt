@@ -1,14 +1,17 @@
 -- `skip::literal` meets its contract. Assumes nothing.
+use mathlib.Core.Path.{refl}
+use native.Mathlib.Omega.{arith}
 use borrow.Author.Needs.{needs}
 use borrow.Author.Tests.{le-leb, lt-leb}
+use Rattle.condition.proofs.Walking.{tried, tried-none}
 use Rattle.condition.proofs.skip.literal.Statement.{statement}
 use Rattle.condition.proofs.skip.literal.Tie as tie
 
 returns : tie.Need-returns
-returns c = rw (le-leb _ _ (c .if1 .taken))
+returns c = rw (le-leb _ _ (c .if1 .taken)) (tried _ (omega arith) refl)
 
 returns-2 : tie.Need-returns-2
-returns-2 c = rw (lt-leb _ _ (c .if1 .left))
+returns-2 c = rw (lt-leb _ _ (c .if1 .left)) (tried-none refl)
 
 pub literal-spec : {M : Type 1} → statement M
-literal-spec = tie.close (tie.spec (λ c. search needs) (λ c. search needs) (λ c. search needs) returns returns-2)
+literal-spec = tie.close (tie.spec (λ c. search needs) (λ c. search needs) returns returns-2)
