@@ -84,7 +84,7 @@ commonOf s =
       bad = half s 8;
       initial = table wordForm (byte s 6) s 14;
       conditions = table textForm (conditionsIn s) s (conditionsAt s);
-      actions = table textForm (actionsIn s) s (actionsAt s)
+      actions = table textForm (actionsIn s) s (actionsAt s);
     }
 
 unfoldable pub sheetOf : List ℕ → Sheet
@@ -92,7 +92,7 @@ sheetOf s =
     record {
       common = commonOf s;
       transitions = table transitionForm (transitionsIn s) s (transitionsAt s);
-      triples = table tripleForm (lastIn s) s (lastAt transitionForm s)
+      triples = table tripleForm (lastIn s) s (lastAt transitionForm s);
     }
 
 unfoldable pub networkOf : List ℕ → Network
@@ -100,5 +100,5 @@ networkOf s =
     record {
       common = commonOf s;
       transitions = table pairedForm (transitionsIn s) s (transitionsAt s);
-      templates = table templateForm (lastIn s) s (lastAt pairedForm s)
+      templates = table templateForm (lastIn s) s (lastAt pairedForm s);
     }

@@ -5,3 +5,4 @@ pub mod Parts
 pub mod Decode
 pub mod Reading
 pub mod Log
+pub mod Walk

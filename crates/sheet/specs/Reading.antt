@@ -61,11 +61,18 @@ conditionIn C i = getD (C .conditions) i (0 ∷ [])
 unfoldable pub whole : List ℕ → Bool
 whole s = leb 14 (length s) && eqb (half s 0) (length s)
 
--- 3: "a count out of range, start not below Q, a bad bit at or above Q, or start bad"
+-- "start not below Q, a bad bit at or above Q, or start bad"
+abbrev pub startHolds : List ℕ → Bool
+startHolds s = ltb (byte s 7) (byte s 3) && (eqb (half s 8 / 2 ^ byte s 3) 0 && not (isBad (half s 8) (byte s 7)))
+
+-- 3: "a count out of range, start not below Q, a bad bit at or above Q, or start bad", for the most conditions, actions and transitions
+abbrev pub countsHold : ℕ → ℕ → ℕ → List ℕ → Bool
+countsHold conditions actions transitions s =
+    between 1 16 (byte s 3) && (between 1 16 (byte s 4) && (leb (byte s 5) 8 && (leb (byte s 6) 4 && (leb (conditionsIn s) conditions && (leb (actionsIn s) actions && (leb (transitionsIn s) transitions && (leb (lastIn s) 32
+    && startHolds s)))))))
+
 unfoldable pub counted : {T R : Type 0} → Layout T R → List ℕ → Bool
-counted F s =
-    between 1 16 (byte s 3) && (between 1 16 (byte s 4) && (leb (byte s 5) 8 && (leb (byte s 6) 4 && (leb (conditionsIn s) (F .conditions) && (leb (actionsIn s) (F .actions) && (leb (transitionsIn s) (F .transitions) && (leb (lastIn s) 32
-    && (ltb (byte s 7) (byte s 3) && (eqb (half s 8 / 2 ^ byte s 3) 0 && not (isBad (half s 8) (byte s 7)))))))))))
+counted F s = countsHold (F .conditions) (F .actions) (F .transitions) s
 
 -- 4: "a length byte out of range, or the tables don't end exactly at the end"; for a network "4 includes n over 4"
 unfoldable pub tabled : {T R : Type 0} → Layout T R → List ℕ → Bool
@@ -155,7 +162,7 @@ sheetLayout =
       lastRanged = λ C t. tripleRanged (countsOf C) t;
       transitionUses = λ t. record { number = t .condition; role = guard } ∷ [];
       lastUses = λ t. record { number = t .precondition; role = precondition } ∷ record { number = t .postcondition; role = postcondition } ∷ [];
-      spread = λ l. every (λ t. leb (together t l) 4) l
+      spread = λ l. every (λ t. leb (together t l) 4) l;
     }
 
 -- "6 includes pairs on an exit, and a template of another unit than its transition's"
@@ -184,5 +191,5 @@ networkLayout =
       lastRanged = λ C t. templateRanged (countsOf C) t;
       transitionUses = λ t. record { number = t .base .condition; role = guard } ∷ map (λ p. record { number = p .condition; role = precondition }) (t .pairs);
       lastUses = λ t. record { number = t .postcondition; role = postcondition } ∷ [];
-      spread = λ l. true
+      spread = λ l. true;
     }

@@ -34,3 +34,9 @@ starts F (suc n) s a = a ∷ starts F n s (a + F .size (drop a s))
 unfoldable pub every : {A : Type 0} → (A → Bool) → List A → Bool
 every p [] = true
 every p (x ∷ l) = p x && every p l
+
+-- exactly n elements: those of a list, and d behind them
+unfoldable pub fit : {A : Type 0} → ℕ → A → List A → List A
+fit zero d l = []
+fit (suc n) d [] = d ∷ fit n d []
+fit (suc n) d (x ∷ l) = x ∷ fit n d l

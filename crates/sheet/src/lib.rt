@@ -1,5 +1,10 @@
 // Sheets, networks and logs: their layouts, and reading them.
 
+mod bytes;
+mod header;
+mod places;
+mod records;
+
 // How many states, units, conditions and actions there are.
 pub struct Counts {
     pub states: u8,

@@ -1,0 +1,4 @@
+-- The laws that the functions' proofs and the layers above cite.
+pub mod Tables
+pub mod Loops
+pub mod Found
