@@ -1,20 +1,27 @@
 -- Where the tables stand, from the counts and from walking over the texts. Assumes nothing.
 use mathlib.Core.Path.{_≡_, refl, sym, ap, ap₂, _∙_}
-use mathlib.Core.Bool.{Bool, true, _&&_}
+use mathlib.Core.Bool.{Bool, true, false, _&&_}
 use mathlib.Core.List.{List}
 use Prim.Native.Nat.{ℕ, zero, suc, _+_, _*_, _≤_, _<_}
 use native.Mathlib.Omega.{arith}
-use lib.ListN.{drop}
+use borrow.Author.Tests.{ltb-true}
+use lib.Dec.{ltb, eqb}
+use lib.ListN.{length, getD, drop}
+use lib.Seq.{drop-drop}
 use Rattle.condition.specs.Answer.{longest}
 use Rattle.sheet.specs.declared.places.Walk.{Walk}
 use Rattle.sheet.specs.declared.places.Texts.{Texts}
 use Rattle.sheet.specs.declared.places.Tables.{Tables}
+use Rattle.sheet.specs.declared.Counts.{Counts}
+use Rattle.sheet.specs.declared.Transition.{Transition}
+use Rattle.sheet.specs.declared.Pair.{Pair}
 use Rattle.sheet.specs.Bytes.{byte}
 use Rattle.sheet.specs.Table.{Form, records, table, after, every}
-use Rattle.sheet.specs.Decode.{wordForm, textForm, lengthForm, transitionForm, tripleForm, pairedForm, pairCountForm, templateForm, conditionsAt, actionsAt, transitionsAt, lastAt}
-use Rattle.sheet.specs.Reading.{between, sheetLayout, networkLayout}
+use Rattle.sheet.specs.Decode.{wordForm, textForm, lengthForm, transitionForm, tripleForm, pairedForm, pairCountForm, templateForm, transitionOf, pairForm, conditionsAt, actionsAt, transitionsAt, lastAt}
+use Rattle.sheet.specs.Reading.{between, sheetLayout, networkLayout, noTemplate, pairRanged}
 use Rattle.sheet.specs.Walk.{Walks, conditionLengths, actionLengths, FindsTexts, Finds, tablesOf}
-use Rattle.sheet.proofs.Tables.{fixed-after, and-true}
+use Rattle.sheet.proofs.Tables.{fixed-after, fixed-start, length-records, table-at, and-true}
+use Rattle.sheet.proofs.Loops.{byte-here, byte-past}
 
 -- a test that every record passes
 pub every-always : {A : Type 0} (p : A → Bool) (F : Form A) → ((s : List ℕ) → p (F .value s) ≡ true) → (n : ℕ) (s : List ℕ) → every p (records F n s) ≡ true
@@ -47,7 +54,7 @@ module _ (s : List ℕ) (v c a : ℕ) (ev : v ≡ byte s 6) (ec : c ≡ byte s 1
         all = λ i. record { conditions = at-conditions i; actions = at-actions i; transitions = at-transitions i; first = first-lengths i; second = second-lengths i };
         smallConditions = omega arith;
         smallActions = omega (arith, f .small);
-        smallTransitions = omega (arith, f .small, g .small)
+        smallTransitions = omega (arith, f .small, g .small);
       }
 
 module _ (s : List ℕ) (t : Texts) (f : FindsTexts s t) (n m : ℕ) (en : n ≡ byte s 12) (em : m ≡ byte s 13) (ln : n < 256) (lm : m < 256) where
@@ -69,7 +76,7 @@ module _ (s : List ℕ) (t : Texts) (f : FindsTexts s t) (n m : ℕ) (en : n ≡
           smallConditions = f .smallConditions;
           smallActions = f .smallActions;
           smallTransitions = omega (arith, f .smallTransitions);
-          smallLast = omega (arith, f .smallTransitions)
+          smallLast = omega (arith, f .smallTransitions);
         }
 
   module _ (w : Walk) (g : Walks pairedForm pairCountForm 0 4 n s (t .transitions) 517 w) where
@@ -93,5 +100,24 @@ module _ (s : List ℕ) (t : Texts) (f : FindsTexts s t) (n m : ℕ) (en : n ≡
           smallConditions = f .smallConditions;
           smallActions = f .smallActions;
           smallTransitions = omega (arith, f .smallTransitions);
-          smallLast = omega (arith, f .smallTransitions, g .small)
+          smallLast = omega (arith, f .smallTransitions, g .small);
         }
+
+-- a template's unit by its number
+pub template-unit : (s : List ℕ) (last m k u : ℕ) → (ltb k m && eqb (byte s (last + k * 2)) u) ≡ (ltb k (length (table templateForm m s last)) && eqb (getD (table templateForm m s last) k noTemplate .unit) u)
+template-unit s last m k u = rw (length-records templateForm m (drop last s)) (go (ltb k m) refl)
+  where
+    go : (b : Bool) → ltb k m ≡ b → (b && eqb (byte s (last + k * 2)) u) ≡ (b && eqb (getD (table templateForm m s last) k noTemplate .unit) u)
+    go true e =
+        let h = ltb-true k m e in
+        let f = table-at templateForm m s last k noTemplate h in
+        rw (← f, fixed-start templateForm 2 (λ t. refl) m s last k 0 h, byte-here s (last + k * 2))
+    go false e = refl
+
+pub pair-found : (s : List ℕ) (p : Pair) (t : Transition) (n : Counts) (last m k b : ℕ) → k ≡ p .template → b ≡ byte s (last + k * 2) → (eqb (t .kind) 0 && (ltb (p .condition) (n .conditions) && (ltb k m && eqb b (t .unit)))) ≡ pairRanged n (table templateForm m s last) t p
+unfolding pairRanged
+pair-found s p t n last m k b e f = rw (f, e, template-unit s last m (p .template) (t .unit))
+
+-- a transition with pairs, from the transition and its pairs: any test on both
+pub paired-value : {X : Type 0} (f : Transition → List Pair → X) (s : List ℕ) (at : ℕ) (t : Transition) (k : ℕ) → t ≡ transitionOf (drop at s) → k ≡ byte s (at + 6) → f t (table pairForm k s (at + 7)) ≡ f (pairedForm .value (drop at s) .base) (pairedForm .value (drop at s) .pairs)
+paired-value f s at t k e g = rw (e, g, byte-past s at 6, ← drop-drop 7 at s)

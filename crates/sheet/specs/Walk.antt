@@ -18,7 +18,8 @@ use Rattle.sheet.specs.declared.places.Texts.{Texts}
 use Rattle.sheet.specs.declared.places.Tables.{Tables}
 use Rattle.sheet.specs.Table.{Form, table, after, every}
 use Rattle.sheet.specs.Decode.{textForm, lengthForm, conditionsIn, actionsIn, transitionsIn, lastIn, conditionsAt, actionsAt, transitionsAt, lastAt}
-use Rattle.sheet.specs.Reading.{Layout, between}
+use Rattle.sheet.specs.declared.Counts.{Counts}
+use Rattle.sheet.specs.Reading.{Layout, between, transitionRanged, pairRanged}
 
 -- whether every length byte of a table is in range, and where the table ends
 abbrev pub walked : {A : Type 0} → Form A → Form ℕ → ℕ → ℕ → ℕ → List ℕ → ℕ → Walk
@@ -81,3 +82,7 @@ pairedSuits s index n L t = guardSuits s index n L (t .base) && every (pairSuits
 
 abbrev pub templateSuits : List ℕ → List ℕ → ℕ → Lent → Template → Bool
 templateSuits s index n L t = not (namesAt isMonitor s index n L (t .postcondition))
+
+-- 6 of a transition with pairs
+abbrev pub pairedRanged : Counts → List Template → Paired → Bool
+pairedRanged n rs t = transitionRanged n (t .base) && every (pairRanged n rs (t .base)) (t .pairs)

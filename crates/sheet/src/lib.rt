@@ -1,8 +1,10 @@
 // Sheets, networks and logs: their layouts, and reading them.
 
 mod bytes;
+mod formed;
 mod header;
 mod places;
+mod ranged;
 mod records;
 
 // How many states, units, conditions and actions there are.
