@@ -2,3 +2,6 @@
 pub mod Tables
 pub mod Loops
 pub mod Found
+pub mod Crowd
+pub mod Indexing
+pub mod Suits

@@ -3,9 +3,12 @@
 mod bytes;
 mod formed;
 mod header;
+mod index;
 mod places;
 mod ranged;
 mod records;
+mod roles;
+mod spread;
 
 // How many states, units, conditions and actions there are.
 pub struct Counts {
