@@ -2,7 +2,7 @@
 use mathlib.Core.Path.{_≡_, refl, sym, ap, ap₂}
 use mathlib.Core.Bool.{Bool, true, false, _&&_, and-eq-true-iff}
 use mathlib.Core.List.{List, [], _∷_, _++_, map}
-use Prim.Native.Nat.{ℕ, zero, suc, _+_, _*_, _<_}
+use Prim.Native.Nat.{ℕ, zero, suc, _+_, _*_, _≤_, _<_}
 use native.Mathlib.Omega.{arith}
 use native.Mathlib.Nat.{suc-mul, zero-mul, le-of-suc-le-suc}
 use lib.ListN.{length, drop, getD}
@@ -82,6 +82,15 @@ module _ {A : Type 0} (F : Form A) (k : ℕ) (sized : (s : List ℕ) → F .size
   fixed-start (suc n) s a zero d h = omega arith
   fixed-start (suc n) s a (suc i) d h = rw (fixed-start n s (a + F .size (drop a s)) i d (le-of-suc-le-suc h), sized (drop a s), suc-mul i k) (omega arith)
 
+-- Records whose size is at most k where they pass a test.
+pub extent-most : {A : Type 0} (F : Form A) (p : A → Bool) (k : ℕ) → ((s : List ℕ) → p (F .value s) ≡ true → F .size s ≤ k)
+    → (n : ℕ) (s : List ℕ) → every p (records F n s) ≡ true → extent F n s ≤ n * k
+unfolding records extent every
+extent-most F p k h zero s e = omega arith
+extent-most F p k h (suc n) s e =
+    let (a, b) = and-parts (p (F .value s)) (every p (records F n (drop (F .size s) s))) e in
+    rw (suc-mul n k) (omega (arith, h s a, extent-most F p k h n (drop (F .size s) s) b))
+
 -- Forms with the same sizes: their tables stand at the same places.
 module _ {A B : Type 0} (F : Form A) (G : Form B) (same : (s : List ℕ) → F .size s ≡ G .size s) where
   pub same-extent : (n : ℕ) (s : List ℕ) → extent F n s ≡ extent G n s
@@ -97,6 +106,12 @@ module _ {A B : Type 0} (F : Form A) (G : Form B) (same : (s : List ℕ) → F .
   same-starts zero s a = refl
   same-starts (suc n) s a = rw (same (drop a s), same-starts n s (a + G .size (drop a s)))
 
+  -- and if one gives what f makes of the other's values
+  pub same-records : (f : B → A) → ((s : List ℕ) → F .value s ≡ f (G .value s)) → (n : ℕ) (s : List ℕ) → records F n s ≡ map f (records G n s)
+  unfolding records
+  same-records f h zero s = refl
+  same-records f h (suc n) s = rw (same s, h s, same-records f h n (drop (G .size s) s))
+
 -- Tests on all elements: at a place, on joined lists, on images, by a weaker test.
 module _ {A : Type 0} where
   pub every-at : (p : A → Bool) (l : List A) (i : ℕ) (d : A) → every p l ≡ true → i < length l → p (getD l i d) ≡ true
@@ -104,6 +119,13 @@ module _ {A : Type 0} where
   every-at p [] i d e h = absurd (omega arith)
   every-at p (x ∷ l) zero d e h = and-parts (p x) (every p l) e .0
   every-at p (x ∷ l) (suc i) d e h = every-at p l i d (and-parts (p x) (every p l) e .1) (le-of-suc-le-suc h)
+
+  -- at any place, where the default passes too
+  pub every-or : (p : A → Bool) (l : List A) (i : ℕ) (d : A) → every p l ≡ true → p d ≡ true → p (getD l i d) ≡ true
+  unfolding every
+  every-or p [] i d e h = h
+  every-or p (x ∷ l) zero d e h = and-parts (p x) (every p l) e .0
+  every-or p (x ∷ l) (suc i) d e h = every-or p l i d (and-parts (p x) (every p l) e .1) h
 
   pub every-append : (p : A → Bool) (l m : List A) → every p (l ++ m) ≡ (every p l && every p m)
   unfolding every

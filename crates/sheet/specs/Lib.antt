@@ -5,4 +5,5 @@ pub mod Parts
 pub mod Decode
 pub mod Reading
 pub mod Log
+pub mod Encode
 pub mod Walk

@@ -6,6 +6,7 @@ mod header;
 mod index;
 mod places;
 mod ranged;
+mod read;
 mod records;
 mod roles;
 mod spread;

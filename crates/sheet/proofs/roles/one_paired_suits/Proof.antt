@@ -9,7 +9,7 @@ use Rattle.sheet.proofs.roles.one_paired_suits.Statement.{statement}
 use Rattle.sheet.proofs.roles.one_paired_suits.Tie as tie
 
 returns : tie.Need-returns
-returns c = 
+returns c =
     let a = c .before .before .before .before .before .args in
     ap₂ _&&_ (c .before .guard-suits .ensures) (c .pairs-suit .ensures)
     ∙ paired-value (λ t ps. guardSuits (a .s .now) (a .index .now) (a .conditions) (a .lent) t && every (pairSuits (a .s .now) (a .index .now) (a .conditions) (a .lent)) ps) (a .s .now) (a .at) _ _ (c .before .before .before .transition .ensures) (c .before .before .number .ensures .0)
