@@ -30,7 +30,7 @@ returns-6 : tie.Need-returns-6
 returns-6 c = refuse-6 networkLayout _ (sym (c .before .before .before .before .before .before .before .before .before .before .before .before .before .whole .ensures) ∙ c .before .before .before .before .before .before .before .before .before .before .before .before .if1 .taken) (sym (c .before .before .before .before .before .before .before .before .before .before .before .number .ensures .0) ∙ c .before .before .before .before .before .before .before .before .before .before .if2 .taken) (counted-is networkLayout _ true (sym (c .before .before .before .before .before .before .before .before .before .counts-hold .ensures) ∙ c .before .before .before .before .before .before .before .before .if3 .taken)) (tabled-is networkLayout _ _ (c .before .before .before .before .before .before .before .network-tables .ensures) true (c .before .before .before .before .if4 .taken)) (sym (c .before .before .before .texts-formed .ensures) ∙ c .before .before .if5 .taken) (sym (c .before .network-ranged .ensures) ∙ c .if6 .left)
 
 network-roled-requires : tie.Need-network-roled-requires
-network-roled-requires c κs = (c .before .before .before .before .before .before .before .network-tables .ensures, few-conditions _ 65 33 96 (omega arith) (sym (c .before .before .before .before .before .before .before .before .before .counts-hold .ensures) ∙ c .before .before .before .before .before .before .before .before .if3 .taken))
+network-roled-requires c κs = (c .before .before .before .before .before .before .before .network-tables .ensures, few-conditions (c .before .before .before .before .before .before .before .before .before .before .before .before .before .before .before .args .s .now) 65 33 96 (omega arith) (sym (c .before .before .before .before .before .before .before .before .before .counts-hold .ensures) ∙ c .before .before .before .before .before .before .before .before .if3 .taken))
 
 returns-7 : tie.Need-returns-7
 returns-7 c = refuse-7 networkLayout _ (sym (c .before .before .before .before .before .before .before .before .before .before .before .before .before .before .before .whole .ensures) ∙ c .before .before .before .before .before .before .before .before .before .before .before .before .before .before .if1 .taken) (sym (c .before .before .before .before .before .before .before .before .before .before .before .before .before .number .ensures .0) ∙ c .before .before .before .before .before .before .before .before .before .before .before .before .if2 .taken) (counted-is networkLayout _ true (sym (c .before .before .before .before .before .before .before .before .before .before .before .counts-hold .ensures) ∙ c .before .before .before .before .before .before .before .before .before .before .if3 .taken)) (tabled-is networkLayout _ _ (c .before .before .before .before .before .before .before .before .before .network-tables .ensures) true (c .before .before .before .before .before .before .if4 .taken)) (sym (c .before .before .before .before .before .texts-formed .ensures) ∙ c .before .before .before .before .if5 .taken) (sym (c .before .before .before .network-ranged .ensures) ∙ c .before .before .if6 .taken) (sym (c .before .network-roled .ensures) ∙ c .if7 .left)

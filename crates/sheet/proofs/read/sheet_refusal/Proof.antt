@@ -30,7 +30,7 @@ returns-6 : tie.Need-returns-6
 returns-6 c = refuse-6 sheetLayout _ (sym (c .before .before .before .before .before .before .before .before .before .before .before .before .before .whole .ensures) ∙ c .before .before .before .before .before .before .before .before .before .before .before .before .if1 .taken) (sym (c .before .before .before .before .before .before .before .before .before .before .before .number .ensures .0) ∙ c .before .before .before .before .before .before .before .before .before .before .if2 .taken) (counted-is sheetLayout _ true (sym (c .before .before .before .before .before .before .before .before .before .counts-hold .ensures) ∙ c .before .before .before .before .before .before .before .before .if3 .taken)) (tabled-is sheetLayout _ _ (c .before .before .before .before .before .before .before .sheet-tables .ensures) true (c .before .before .before .before .if4 .taken)) (sym (c .before .before .before .texts-formed .ensures) ∙ c .before .before .if5 .taken) (sym (c .before .sheet-ranged .ensures) ∙ c .if6 .left)
 
 sheet-roled-requires : tie.Need-sheet-roled-requires
-sheet-roled-requires c κs = (c .before .before .before .before .before .before .before .sheet-tables .ensures, few-conditions _ 64 32 64 (omega arith) (sym (c .before .before .before .before .before .before .before .before .before .counts-hold .ensures) ∙ c .before .before .before .before .before .before .before .before .if3 .taken))
+sheet-roled-requires c κs = (c .before .before .before .before .before .before .before .sheet-tables .ensures, few-conditions (c .before .before .before .before .before .before .before .before .before .before .before .before .before .before .before .args .s .now) 64 32 64 (omega arith) (sym (c .before .before .before .before .before .before .before .before .before .counts-hold .ensures) ∙ c .before .before .before .before .before .before .before .before .if3 .taken))
 
 returns-7 : tie.Need-returns-7
 returns-7 c = refuse-7 sheetLayout _ (sym (c .before .before .before .before .before .before .before .before .before .before .before .before .before .before .before .whole .ensures) ∙ c .before .before .before .before .before .before .before .before .before .before .before .before .before .before .if1 .taken) (sym (c .before .before .before .before .before .before .before .before .before .before .before .before .before .number .ensures .0) ∙ c .before .before .before .before .before .before .before .before .before .before .before .before .if2 .taken) (counted-is sheetLayout _ true (sym (c .before .before .before .before .before .before .before .before .before .before .before .counts-hold .ensures) ∙ c .before .before .before .before .before .before .before .before .before .before .if3 .taken)) (tabled-is sheetLayout _ _ (c .before .before .before .before .before .before .before .before .before .sheet-tables .ensures) true (c .before .before .before .before .before .before .if4 .taken)) (sym (c .before .before .before .before .before .texts-formed .ensures) ∙ c .before .before .before .before .if5 .taken) (sym (c .before .before .before .sheet-ranged .ensures) ∙ c .before .before .if6 .taken) (sym (c .before .sheet-roled .ensures) ∙ c .if7 .left)
