@@ -9,9 +9,9 @@ use lib.Dec.{ltb, eqb}
 use lib.ListN.{length, getD, drop}
 use lib.Seq.{drop-drop}
 use Rattle.condition.specs.Answer.{longest}
-use Rattle.sheet.specs.declared.places.Walk.{Walk}
-use Rattle.sheet.specs.declared.places.Texts.{Texts}
-use Rattle.sheet.specs.declared.places.Tables.{Tables}
+use Rattle.sheet.specs.declared.walk.Walk.{Walk}
+use Rattle.sheet.specs.declared.walk.Texts.{Texts}
+use Rattle.sheet.specs.declared.walk.Tables.{Tables}
 use Rattle.sheet.specs.declared.Counts.{Counts}
 use Rattle.sheet.specs.declared.Transition.{Transition}
 use Rattle.sheet.specs.declared.Pair.{Pair}

@@ -7,6 +7,7 @@ pub mod Crowd
 pub mod Indexing
 pub mod Suits
 pub mod Refusals
+pub mod Logs
 pub mod Encoding
 pub mod Accepted
 pub mod Limits

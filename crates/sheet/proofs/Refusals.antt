@@ -16,7 +16,7 @@ use Rattle.sheet.specs.declared.Transition.{Transition}
 use Rattle.sheet.specs.declared.Triple.{Triple}
 use Rattle.sheet.specs.declared.Pair.{Pair}
 use Rattle.sheet.specs.declared.Template.{Template}
-use Rattle.sheet.specs.declared.places.Tables.{Tables}
+use Rattle.sheet.specs.declared.walk.Tables.{Tables}
 use Rattle.sheet.specs.Bytes.{byte}
 use Rattle.sheet.specs.Table.{table, starts, fit, every}
 use Rattle.sheet.specs.Parts.{Common, Paired}

@@ -6,4 +6,5 @@ pub mod Decode
 pub mod Reading
 pub mod Log
 pub mod Encode
+pub mod Answer
 pub mod Walk

@@ -13,9 +13,9 @@ use Rattle.sheet.specs.declared.Triple.{Triple}
 use Rattle.sheet.specs.declared.Pair.{Pair}
 use Rattle.sheet.specs.declared.Template.{Template}
 use Rattle.sheet.specs.Parts.{Paired}
-use Rattle.sheet.specs.declared.places.Walk.{Walk}
-use Rattle.sheet.specs.declared.places.Texts.{Texts}
-use Rattle.sheet.specs.declared.places.Tables.{Tables}
+use Rattle.sheet.specs.declared.walk.Walk.{Walk}
+use Rattle.sheet.specs.declared.walk.Texts.{Texts}
+use Rattle.sheet.specs.declared.walk.Tables.{Tables}
 use Rattle.sheet.specs.Table.{Form, table, after, every}
 use Rattle.sheet.specs.Decode.{textForm, lengthForm, conditionsIn, actionsIn, transitionsIn, lastIn, conditionsAt, actionsAt, transitionsAt, lastAt}
 use Rattle.sheet.specs.declared.Counts.{Counts}

@@ -5,18 +5,20 @@ ghost use Prim.Native.Nat.{_≤_};
 ghost use Rattle.sheet.specs.Bytes.{byte};
 ghost use Rattle.sheet.specs.Decode.{commonOf, conditionsAt, actionsAt};
 ghost use Rattle.sheet.specs.Reading.{sheetLayout, networkLayout, lentIn, countsOf, formed, ranged, roled, transitionsOf, lastOf, reading};
+ghost use Rattle.sheet.specs.Answer.{answer};
 ghost use Rattle.sheet.specs.Walk.{Finds};
 use crate::Counts;
+use crate::Reading;
 use crate::bytes::byte;
 use crate::bytes::number;
 use crate::formed;
-use crate::header;
+use crate::head;
 use crate::index::index;
-use crate::places;
-use crate::places::Tables;
 use crate::ranged;
 use crate::roles;
 use crate::spread::spread;
+use crate::walk;
+use crate::walk::Tables;
 use condition::Lent;
 
 fn lent(s: &[u8]) -> Lent
@@ -95,16 +97,16 @@ fn network_roled(s: &[u8], t: Tables) -> bool
 pub(crate) fn sheet_refusal(s: &[u8]) -> u8
     ensures { λ r. ⌜ r ≡ reading sheetLayout (now (s .entry)) ⌝ }
 {
-    if header::whole(s) {} else {
+    if head::whole(s) {} else {
         return 1;
     }
     if number(s, 2) == 1 {} else {
         return 2;
     }
-    if header::counts_hold(s, 64, 32, 64) {} else {
+    if head::counts_hold(s, 64, 32, 64) {} else {
         return 3;
     }
-    let t = places::sheet_tables(s);
+    let t = walk::sheet_tables(s);
     if t.ok & (t.end == s.len()) {} else {
         return 4;
     }
@@ -126,16 +128,16 @@ pub(crate) fn sheet_refusal(s: &[u8]) -> u8
 pub(crate) fn network_refusal(s: &[u8]) -> u8
     ensures { λ r. ⌜ r ≡ reading networkLayout (now (s .entry)) ⌝ }
 {
-    if header::whole(s) {} else {
+    if head::whole(s) {} else {
         return 1;
     }
     if number(s, 2) == 2 {} else {
         return 2;
     }
-    if header::counts_hold(s, 65, 33, 96) {} else {
+    if head::counts_hold(s, 65, 33, 96) {} else {
         return 3;
     }
-    let t = places::network_tables(s);
+    let t = walk::network_tables(s);
     if t.ok & (t.end == s.len()) {} else {
         return 4;
     }
@@ -149,4 +151,15 @@ pub(crate) fn network_refusal(s: &[u8]) -> u8
         return 7;
     }
     0
+}
+
+// 0 stands for an accepted input.
+pub(crate) fn answer(n: u8) -> Reading
+    ensures { λ r. ⌜ r ≡ answer n ⌝ }
+{
+    if n == 0 {
+        Reading::Accepted
+    } else {
+        Reading::Refused(n)
+    }
 }

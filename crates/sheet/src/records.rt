@@ -3,11 +3,12 @@
 ghost use mathlib.Core.Path.{_≡_};
 ghost use Prim.Native.Nat.{_≤_};
 ghost use lib.ListN.{take, drop};
-ghost use Rattle.sheet.specs.Decode.{textForm, transitionOf, tripleForm, pairForm, templateForm};
+ghost use Rattle.sheet.specs.Decode.{wordForm, textForm, transitionOf, tripleForm, pairForm, templateForm};
 use crate::Pair;
 use crate::Template;
 use crate::Transition;
 use crate::Triple;
+use crate::bytes;
 use crate::bytes::byte;
 use crate::bytes::number;
 
@@ -78,4 +79,11 @@ pub(crate) fn text(s: &[u8], at: usize) -> &[u8]
 {
     let n = number(s, at);
     part(s, at + 1, n)
+}
+
+pub(crate) fn word(s: &[u8], at: usize) -> u32
+    requires { ⌜ at ≤ 8000000000 ⌝ }
+    ensures { λ r. ⌜ r ≡ wordForm .value (drop at (now (s .entry))) ⌝ }
+{
+    bytes::word(s, at)
 }

@@ -9,7 +9,7 @@ use Rattle.sheet.proofs.read.network_refusal.Statement.{statement}
 use Rattle.sheet.proofs.read.network_refusal.Tie as tie
 
 returns : tie.Need-returns
-returns c = refuse-1 networkLayout _  (sym (c .before .whole .ensures) ∙ c .if1 .left)
+returns c = refuse-1 networkLayout _ (sym (c .before .whole .ensures) ∙ c .if1 .left)
 
 returns-2 : tie.Need-returns-2
 returns-2 c = refuse-2 networkLayout _ (sym (c .before .before .before .whole .ensures) ∙ c .before .before .if1 .taken) (λ e. c .if2 .left (c .before .number .ensures .0 ∙ e))
