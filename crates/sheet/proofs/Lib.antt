@@ -1,0 +1,14 @@
+-- The laws that the functions' proofs and the layers above cite.
+pub mod Tests
+pub mod Tables
+pub mod Loops
+pub mod Found
+pub mod Crowd
+pub mod Indexing
+pub mod Suits
+pub mod Refusals
+pub mod Logs
+pub mod Encoding
+pub mod Accepted
+pub mod Limits
+pub mod Rows

@@ -1,0 +1,189 @@
+-- Refusals 1-8 at the edges of their circumstances, as rows under one claim about the definitions, with document 01's sheet A and its network.
+-- Assumes nothing.
+use mathlib.Core.Path.{_≡_, refl}
+use mathlib.Core.List.{List, [], _∷_, _++_, map}
+use Prim.Native.Nat.{ℕ, zero, suc, _+_, _*_}
+use lib.ListN.{length, take, set, replicate}
+use Rattle.condition.specs.Word.{bigEndian}
+use Rattle.condition.specs.Tree.{conditionNames, valueNames, actionNames, isMonitor, isAtEntry}
+use Rattle.condition.specs.Parse.{isLent, literal, numbered, conditionOperator, valueOperator, conditionFrom, valueFrom, parseCondition, assignmentFrom, runFrom, parseAction}
+use Rattle.condition.specs.Answer.{conditionWhich, actionWhich}
+use Rattle.sheet.specs.Table.{records, extent, every}
+use Rattle.sheet.specs.Decode.{conditionsAt, actionsAt, transitionsAt, lastAt, commonOf, networkOf}
+use Rattle.sheet.specs.Reading.{reading, whole, counted, tabled, formed, roled, ranged, transitionRanged, tripleRanged, together, pairRanged, templateRanged, sheetLayout, networkLayout}
+use Rattle.sheet.specs.Encode.{halfBytes, textBytes, written, tableBytes, encode}
+
+-- Sheets or networks that are accepted, and some that are refused with a number.
+pub data Row : Type 0 where
+  sheet : List (List ℕ) → ℕ → List (List ℕ) → Row
+  network : List (List ℕ) → ℕ → List (List ℕ) → Row
+
+-- what reading answers for all of them, and what it should answer
+abbrev pub answered : Row → List ℕ
+answered (sheet l n m) = map (reading sheetLayout) (l ++ m)
+answered (network l n m) = map (reading networkLayout) (l ++ m)
+
+abbrev pub expected : Row → List ℕ
+expected (sheet l n m) = replicate (length l) 0 ++ replicate (length m) n
+expected (network l n m) = replicate (length l) 0 ++ replicate (length m) n
+
+-- "Sheet A, 39 bytes", and "A's network, 53 bytes"
+abbrev pub sheetA : List ℕ
+sheetA =
+    0x00 ∷ 0x27 ∷ 0x01 ∷ 0x02 ∷ 0x01 ∷ 0x02 ∷ 0x00 ∷ 0x00 ∷ 0x00 ∷ 0x00 ∷ 0x02 ∷ 0x01 ∷ 0x02 ∷ 0x01 ∷ 0x01 ∷ 0x00 ∷ 0x05 ∷ 0x05 ∷ 0x11 ∷ 0x01 ∷ 0x13 ∷ 0x00 ∷ 0x00 ∷ 0x00 ∷ 0x00 ∷ 0x00 ∷ 0x00 ∷ 0x00 ∷ 0x01 ∷ 0x01 ∷ 0x01 ∷ 0x00 ∷ 0x00 ∷ 0x00 ∷ 0x00 ∷ 0x00 ∷ 0x00 ∷ 0x00 ∷ 0x01 ∷ []
+
+abbrev pub networkA : List ℕ
+networkA =
+    0x00 ∷ 0x35 ∷ 0x02 ∷ 0x02 ∷ 0x01 ∷ 0x02 ∷ 0x00 ∷ 0x00 ∷ 0x00 ∷ 0x00 ∷ 0x03 ∷ 0x02 ∷ 0x03 ∷ 0x01 ∷ 0x01 ∷ 0x00 ∷ 0x05 ∷ 0x05 ∷ 0x11 ∷ 0x01 ∷ 0x13 ∷ 0x00 ∷ 0x01 ∷ 0x00 ∷ 0x00 ∷ 0x00 ∷ 0x00 ∷ 0x00 ∷ 0x00 ∷ 0x00 ∷ 0x00 ∷ 0x01 ∷ 0x01 ∷ 0x00 ∷ 0x00 ∷ 0x01 ∷ 0x01 ∷ 0x00 ∷ 0x00 ∷ 0x00 ∷ 0x00 ∷ 0x00 ∷ 0x00 ∷ 0x00 ∷ 0x00 ∷ 0x02 ∷ 0x01 ∷ 0x00 ∷ 0x01 ∷ 0x00 ∷ 0x00 ∷ 0x00 ∷ 0x01 ∷ []
+
+-- Other bytes behind their length: the header from the version to the bad states, the initial values, and the tables with their counts.
+abbrev pub built : List ℕ → List ℕ → List (List ℕ) → List (List ℕ) → List (List ℕ) → List (List ℕ) → List ℕ
+built head values conditions actions transitions last =
+    let tables = values ++ written textBytes conditions ++ written textBytes actions ++ written (λ t. t) transitions ++ written (λ t. t) last in
+    halfBytes (14 + length tables) ++ head ++ (length conditions ∷ length actions ∷ length transitions ∷ length last ∷ tables)
+
+-- version, V; Q is 8, and U and P are 1
+abbrev pub head : ℕ → ℕ → List ℕ
+head version monitors = version ∷ 8 ∷ 1 ∷ 1 ∷ monitors ∷ 0 ∷ 0 ∷ 0 ∷ []
+
+-- The least sheet; sheets with many parts, with one condition or one action; four triples of a state, and of each below a number.
+abbrev pub least : List ℕ
+least = built (1 ∷ 1 ∷ 1 ∷ 0 ∷ 0 ∷ 0 ∷ 0 ∷ 0 ∷ []) [] [] [] [] []
+
+abbrev pub conditions : ℕ → ℕ → List ℕ
+conditions version n = built (head version 0) [] (replicate n (0 ∷ [])) [] [] []
+
+abbrev pub actions : ℕ → ℕ → List ℕ
+actions version n = built (head version 0) [] [] (replicate n []) [] []
+
+abbrev pub transitions : ℕ → ℕ → ℕ → List ℕ
+transitions version n size = built (head version 0) [] ((0 ∷ []) ∷ []) ([] ∷ []) (replicate n (replicate size 0)) []
+
+abbrev pub templates : ℕ → List ℕ
+templates n = built (head 2 0) [] ((0 ∷ []) ∷ []) [] [] (replicate n (0 ∷ 0 ∷ []))
+
+abbrev pub condition : List ℕ → List ℕ
+condition t = built (head 1 0) [] (t ∷ []) [] [] []
+
+abbrev pub action : List ℕ → List ℕ
+action t = built (head 1 1) (replicate 4 0) [] (t ∷ []) [] []
+
+abbrev pub four : ℕ → List (List ℕ)
+four q = replicate 4 (q ∷ 0 ∷ 0 ∷ 0 ∷ [])
+
+abbrev pub fours : ℕ → List (List ℕ)
+fours zero = []
+fours (suc q) = fours q ++ four q
+
+abbrev pub triples : List (List ℕ) → List ℕ
+triples l = built (head 1 0) [] ((0 ∷ []) ∷ []) [] [] l
+
+-- A condition of 64 bytes; assignments to variable 0, of 3 and of 7 bytes, and 64 bytes of them.
+abbrev pub longestCondition : List ℕ
+longestCondition = replicate 63 1 ++ 0 ∷ []
+
+abbrev pub assign : ℕ → ℕ → List ℕ
+assign kind number = 0 ∷ kind ∷ number ∷ []
+
+abbrev pub choice : List ℕ
+choice = 0 ∷ 22 ∷ 0 ∷ 18 ∷ 0 ∷ 18 ∷ 0 ∷ []
+
+abbrev pub longestAction : List ℕ
+longestAction = written (assign 18) (replicate 19 0) ++ choice
+
+-- Condition 0 is `true` and 1 is the one given: the numbers of a guard, a precondition and a postcondition. And a transition with n pairs.
+abbrev pub roles : List ℕ → ℕ → ℕ → ℕ → List ℕ
+roles t guard before after =
+    built (head 1 1) (replicate 4 0) ((0 ∷ []) ∷ t ∷ []) ([] ∷ []) ((0 ∷ 0 ∷ 0 ∷ guard ∷ 0 ∷ 0 ∷ []) ∷ []) ((0 ∷ 0 ∷ before ∷ after ∷ []) ∷ [])
+
+abbrev pub atEntry : List ℕ
+atEntry = 5 ∷ 19 ∷ 0 ∷ 17 ∷ 0 ∷ []
+
+abbrev pub monitored : List ℕ
+monitored = 5 ∷ 18 ∷ 0 ∷ 17 ∷ 0 ∷ []
+
+abbrev pub paired : ℕ → List ℕ
+paired n = built (head 2 0) [] ((0 ∷ []) ∷ []) ([] ∷ []) ((0 ∷ 0 ∷ 0 ∷ 0 ∷ 0 ∷ 0 ∷ n ∷ replicate (2 * n) 0) ∷ []) ((0 ∷ 0 ∷ []) ∷ [])
+
+-- As much as there can be of all.
+abbrev pub longestSheet : List ℕ
+longestSheet = built (head 1 4) (replicate 16 0) (replicate 64 longestCondition) (replicate 32 longestAction) (replicate 64 (replicate 6 0)) (fours 8)
+
+abbrev pub longestNetwork : List ℕ
+longestNetwork = built (head 2 4) (replicate 16 0) (replicate 65 longestCondition) (replicate 33 longestAction) (replicate 96 (replicate 6 0 ++ 4 ∷ replicate 8 0)) (replicate 32 (replicate 2 0))
+
+abbrev pub rows : List Row
+rows =
+    -- 1: "under 14 bytes, or the length isn't the slice's"
+    sheet (least ∷ []) 1 (set (take 13 least) 1 13 ∷ []) ∷
+    sheet (sheetA ∷ []) 1 (set sheetA 1 0x26 ∷ set sheetA 1 0x28 ∷ set sheetA 0 1 ∷ (sheetA ++ 0 ∷ []) ∷ []) ∷
+    -- 2: "other version"
+    sheet (sheetA ∷ []) 2 (set sheetA 2 0 ∷ set sheetA 2 2 ∷ []) ∷
+    network (networkA ∷ []) 2 (set networkA 2 1 ∷ set networkA 2 3 ∷ []) ∷
+    -- 3: "a count out of range": Q, U, P, V, conditions, actions, transitions, triples or templates
+    sheet (set least 3 1 ∷ set least 3 16 ∷ []) 3 (set least 3 0 ∷ set least 3 17 ∷ []) ∷
+    sheet (set least 4 1 ∷ set least 4 16 ∷ []) 3 (set least 4 0 ∷ set least 4 17 ∷ []) ∷
+    sheet (set least 5 0 ∷ set least 5 8 ∷ []) 3 (set least 5 9 ∷ []) ∷
+    sheet (built (head 1 4) (replicate 16 0) [] [] [] [] ∷ []) 3 (built (head 1 5) (replicate 20 0) [] [] [] [] ∷ []) ∷
+    sheet (conditions 1 64 ∷ []) 3 (conditions 1 65 ∷ []) ∷
+    sheet (actions 1 32 ∷ []) 3 (actions 1 33 ∷ []) ∷
+    sheet (transitions 1 64 6 ∷ []) 3 (transitions 1 65 6 ∷ []) ∷
+    sheet (triples (fours 8) ∷ []) 3 (triples (fours 9) ∷ []) ∷
+    network (conditions 2 65 ∷ []) 3 (conditions 2 66 ∷ []) ∷
+    network (actions 2 33 ∷ []) 3 (actions 2 34 ∷ []) ∷
+    network (transitions 2 96 7 ∷ []) 3 (transitions 2 97 7 ∷ []) ∷
+    network (templates 32 ∷ []) 3 (templates 33 ∷ []) ∷
+    -- 3: "start not below Q, a bad bit at or above Q, or start bad"
+    sheet (set sheetA 7 1 ∷ []) 3 (set sheetA 7 2 ∷ []) ∷
+    sheet (set sheetA 9 2 ∷ set (set least 3 16) 8 0x80 ∷ []) 3 (set sheetA 9 4 ∷ set sheetA 9 1 ∷ set (set least 3 15) 8 0x80 ∷ []) ∷
+    -- 4: "a length byte out of range", of a condition and of an action; "n over 4"
+    sheet (condition (0 ∷ []) ∷ condition longestCondition ∷ []) 4 (condition [] ∷ condition (1 ∷ longestCondition) ∷ []) ∷
+    sheet (action [] ∷ action longestAction ∷ []) 4 (action (written (assign 18) (replicate 17 0) ++ choice ++ choice) ∷ []) ∷
+    network (paired 0 ∷ paired 4 ∷ []) 4 (paired 5 ∷ []) ∷
+    -- 4: "the tables don't end exactly at the end"
+    sheet (sheetA ∷ []) 4 (set (sheetA ++ 0 ∷ []) 1 0x28 ∷ set (take 38 sheetA) 1 0x26 ∷ set sheetA 13 0 ∷ set sheetA 22 1 ∷ []) ∷
+    network (networkA ∷ []) 4 (set networkA 13 2 ∷ []) ∷
+    -- 5: "a condition or action isn't exactly one, or exactly a run of assignments, by the grammar, or has a variable out of range"
+    sheet (condition (0 ∷ []) ∷ []) 5 (condition (7 ∷ []) ∷ condition (0 ∷ 0 ∷ []) ∷ condition (1 ∷ []) ∷ []) ∷
+    sheet (set sheetA 19 1 ∷ set sheetA 21 1 ∷ []) 5 (set sheetA 19 2 ∷ set sheetA 21 2 ∷ []) ∷
+    sheet (action (assign 17 0) ∷ action (assign 18 0) ∷ []) 5 (action (assign 17 1) ∷ action (assign 18 1) ∷ action (assign 23 0) ∷ action (1 ∷ 17 ∷ 0 ∷ []) ∷ action (0 ∷ []) ∷ []) ∷
+    -- 6: "a transition or triple has a number out of range"
+    sheet (set sheetA 23 1 ∷ set sheetA 24 1 ∷ set sheetA 28 0 ∷ []) 6 (set sheetA 23 2 ∷ set sheetA 24 2 ∷ set sheetA 25 1 ∷ set sheetA 26 2 ∷ set sheetA 27 1 ∷ set sheetA 28 2 ∷ []) ∷
+    sheet (set sheetA 35 1 ∷ set sheetA 38 0 ∷ []) 6 (set sheetA 35 2 ∷ set sheetA 36 1 ∷ set sheetA 37 2 ∷ set sheetA 38 2 ∷ []) ∷
+    network (set networkA 52 2 ∷ []) 6 (set networkA 52 3 ∷ set networkA 51 1 ∷ set networkA 42 2 ∷ []) ∷
+    -- 6 "includes pairs on an exit, and a template of another unit than its transition's"
+    network (set networkA 33 2 ∷ set networkA 4 2 ∷ []) 6 (set networkA 33 3 ∷ set networkA 34 1 ∷ set networkA 27 1 ∷ set (set networkA 4 2) 51 1 ∷ []) ∷
+    -- 7: "value-at-entry in an action or transition's condition; value-at-entry or a monitor variable in a precondition; a monitor variable in a
+    -- postcondition"; "pairs count as preconditions"
+    sheet (action (assign 17 0) ∷ []) 7 (action (assign 19 0) ∷ []) ∷
+    sheet (roles atEntry 0 0 1 ∷ []) 7 (roles atEntry 1 0 0 ∷ roles atEntry 0 1 0 ∷ []) ∷
+    sheet (roles monitored 1 0 0 ∷ []) 7 (roles monitored 0 1 0 ∷ roles monitored 0 0 1 ∷ []) ∷
+    network (set networkA 33 0 ∷ []) 7 (set networkA 33 1 ∷ set networkA 29 1 ∷ []) ∷
+    -- 8: "over four triples of one state and unit"
+    sheet (triples (fours 1) ∷ triples (fours 2) ∷ []) 8 (triples (take 1 (four 0) ++ four 0) ∷ triples (fours 2 ++ take 1 (four 0)) ∷ []) ∷
+    -- the longest
+    sheet (longestSheet ∷ []) 1 ((longestSheet ++ 0 ∷ []) ∷ []) ∷
+    network (longestNetwork ∷ []) 1 ((longestNetwork ++ 0 ∷ []) ∷ []) ∷
+    -- "the first that applies"
+    sheet (sheetA ∷ []) 1 (set (set sheetA 1 0) 2 2 ∷ []) ∷
+    sheet (sheetA ∷ []) 2 (set (set sheetA 2 2) 3 0 ∷ []) ∷
+    sheet (sheetA ∷ []) 3 (set (set sheetA 3 0) 22 1 ∷ []) ∷
+    sheet (sheetA ∷ []) 4 (set (set sheetA 22 1) 15 7 ∷ []) ∷
+    sheet (sheetA ∷ []) 5 (set (set sheetA 15 7) 23 2 ∷ []) ∷
+    sheet (sheetA ∷ []) 6 (set (set sheetA 23 2) 26 1 ∷ []) ∷
+    sheet (sheetA ∷ []) 7 (built (head 1 0) [] ((0 ∷ []) ∷ atEntry ∷ []) [] [] (replicate 5 (0 ∷ 0 ∷ 1 ∷ 0 ∷ [])) ∷ []) ∷
+    []
+
+pub rows-hold : map answered rows ≡ map expected rows
+unfolding reading whole counted tabled formed roled ranged transitionRanged tripleRanged together pairRanged templateRanged records extent every conditionsAt actionsAt transitionsAt lastAt commonOf bigEndian conditionNames valueNames actionNames isMonitor isAtEntry isLent literal numbered conditionOperator valueOperator conditionFrom valueFrom parseCondition assignmentFrom runFrom parseAction conditionWhich actionWhich written
+rows-hold = refl
+
+-- "The longest sheet has 6,782 bytes": one that is accepted, in the rows, is as long, and none is longer (proofs/Limits.antt). So of networks.
+pub longest-lengths : (length longestSheet ≡ 6782) × (length longestNetwork ≡ 7904)
+unfolding written
+longest-lengths = (refl, refl)
+
+-- The bytes of what A's network stands for are those of document 01.
+pub encoded-holds : encode (networkOf networkA) ≡ networkA
+unfolding networkOf commonOf records extent conditionsAt actionsAt transitionsAt lastAt bigEndian written tableBytes encode
+encoded-holds = refl

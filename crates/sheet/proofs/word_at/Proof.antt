@@ -1,0 +1,12 @@
+-- `word_at` meets its contract. Assumes nothing.
+use borrow.Author.Needs.{needs}
+use Rattle.sheet.proofs.word_at.Statement.{statement}
+use Rattle.sheet.proofs.word_at.Tie as tie
+
+returns : tie.Need-returns
+returns c = rw (c .before .place .ensures .0) at (c .word .ensures)
+
+pub word-at-spec : {M : Type 1} → statement M
+word-at-spec =
+    tie.close
+    (tie.spec (λ c κs. search needs) (λ c κs. search needs) returns)
