@@ -2,7 +2,7 @@
 //! be written too.
 
 use crate::expr::{Action, Condition};
-use crate::machine::{set_length, write_counted, Kind};
+use crate::machine::{set_length, write_counted, Kind, Places, HEADER_LENGTH};
 
 /// The header's numbers and the tables of bytes.
 #[derive(Clone, Debug, Default, PartialEq, Eq)]
@@ -34,6 +34,13 @@ impl Front {
             write_counted(bytes, &mut out);
         }
         out
+    }
+
+    /// How many bytes stand before the transitions.
+    fn length(&self) -> usize {
+        let expressions = self.conditions.iter().chain(&self.actions);
+        let counted = expressions.map(|bytes| 1 + bytes.len());
+        HEADER_LENGTH + 4 * self.initial.len() + counted.sum::<usize>()
     }
 
     /// Adds a condition and gives its number.
@@ -94,6 +101,15 @@ impl SheetDraft {
             .push([state, unit, precondition, postcondition]);
     }
 
+    /// Counted from the front.
+    pub fn places(&self) -> Places {
+        let transitions = self.front.length();
+        Places {
+            transitions,
+            last: transitions + self.transitions.concat().len(),
+        }
+    }
+
     pub fn bytes(&self) -> Vec<u8> {
         let mut out = self.front.write(self.transitions.len(), self.triples.len());
         out.extend(self.transitions.concat());
@@ -114,6 +130,17 @@ pub struct NetworkDraft {
 }
 
 impl NetworkDraft {
+    /// Counted from the front.
+    pub fn places(&self) -> Places {
+        let transitions = self.front.length();
+        let lengths = self.transitions.iter();
+        let lengths = lengths.map(|(bytes, pairs)| bytes.len() + 1 + 2 * pairs.len());
+        Places {
+            transitions,
+            last: transitions + lengths.sum::<usize>(),
+        }
+    }
+
     pub fn bytes(&self) -> Vec<u8> {
         let mut out = self
             .front

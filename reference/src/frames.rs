@@ -138,7 +138,7 @@ fn read_words(rest: &mut &[u8]) -> Option<Vec<i32>> {
     Some(bytes.chunks_exact(4).map(word).collect())
 }
 
-fn take<'a>(rest: &mut &'a [u8], count: usize) -> Option<&'a [u8]> {
+pub(crate) fn take<'a>(rest: &mut &'a [u8], count: usize) -> Option<&'a [u8]> {
     if count > rest.len() {
         return None;
     }

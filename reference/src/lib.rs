@@ -16,6 +16,8 @@ pub mod random_expr;
 pub mod refusal;
 pub mod run;
 pub mod sheet;
+pub mod sheet_cases;
+pub mod sheet_frames;
 pub mod state;
 pub mod tally;
 pub mod translate;

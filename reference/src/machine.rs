@@ -116,6 +116,14 @@ pub fn write_counted(bytes: &[u8], out: &mut Vec<u8>) {
     out.extend_from_slice(bytes);
 }
 
+/// Where tables begin, in bytes from 0.
+#[derive(Clone, Copy, Debug, PartialEq, Eq)]
+pub struct Places {
+    pub transitions: usize,
+    /// Triples or templates.
+    pub last: usize,
+}
+
 /// Writes the length of the whole into its first two bytes.
 pub fn set_length(bytes: &mut [u8]) {
     let length = (bytes.len() as u16).to_be_bytes();

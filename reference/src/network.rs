@@ -1,8 +1,9 @@
 //! Networks: reading and writing.
 
-use crate::machine::{self, below, Cutter, Kind, Layout, Machine, Role, Transition};
+use crate::machine::{self, below, Cutter, Kind, Layout, Machine, Places, Role, Transition};
 use crate::refusal::Refusal;
 
+pub const LONGEST_NETWORK: usize = 7_904;
 const VERSION: u8 = 2;
 const MOST_PAIRS: u8 = 4;
 
@@ -79,6 +80,16 @@ impl Network {
         }
         machine::set_length(&mut out);
         out
+    }
+
+    /// Counted back from the end, where the last table ends.
+    pub fn places(&self) -> Places {
+        let last = self.bytes().len() - 2 * self.templates.len();
+        let lengths = self.transitions.iter().map(|t| 7 + 2 * t.pairs.len());
+        Places {
+            transitions: last - lengths.sum::<usize>(),
+            last,
+        }
     }
 
     fn roles(&self) -> Vec<(u8, Role)> {

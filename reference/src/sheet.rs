@@ -1,6 +1,6 @@
 //! Rule sheets: reading and writing.
 
-use crate::machine::{self, below, Cutter, Layout, Machine, Role, Transition};
+use crate::machine::{self, below, Cutter, Layout, Machine, Places, Role, Transition};
 use crate::refusal::Refusal;
 
 pub const LONGEST_SHEET: usize = 6_782;
@@ -67,6 +67,15 @@ impl Sheet {
         }
         machine::set_length(&mut out);
         out
+    }
+
+    /// Counted back from the end, where the last table ends.
+    pub fn places(&self) -> Places {
+        let last = self.bytes().len() - 4 * self.triples.len();
+        Places {
+            transitions: last - 6 * self.transitions.len(),
+            last,
+        }
     }
 
     /// The numbers of the triples of a state and unit, rising.

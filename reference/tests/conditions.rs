@@ -3,7 +3,7 @@
 use reference::condition_cases;
 use reference::expr::{self, Lent};
 use reference::frames::{read_frames, Kind};
-use reference::programs::PROGRAMS;
+use reference::programs;
 use reference::Refusal;
 
 const NOTHING: Lent = Lent {
@@ -30,7 +30,7 @@ fn chosen_cases_have_the_answers_written_beside_them() {
 
 #[test]
 fn the_file_is_large_enough_and_small_enough() {
-    let files = (PROGRAMS[0].make)();
+    let files = programs::files("condition_cases").expect("the program is in the table");
     let frames = read_frames(&files.stdin).expect("frames fill the file");
     assert!(frames.len() >= 600, "{} cases", frames.len());
     assert!(files.stdin.len() <= 60_000, "{} bytes", files.stdin.len());

@@ -1,5 +1,6 @@
 //! The binaries: what they write, and what they say to wrong arguments and missing files.
 
+use reference::programs::PROGRAMS;
 use std::fs;
 use std::io::Write;
 use std::path::{Path, PathBuf};
@@ -64,16 +65,35 @@ fn cases_writes_what_it_checks() {
     assert_one_line_and_failure(&run(CASES, &["--check", text]));
     assert!(run(CASES, &[text]).status.success());
     assert!(run(CASES, &[text, "--check"]).status.success());
-    let file = root.join("crates/condition_cases/stdout");
-    let mut bytes = fs::read(&file).unwrap();
-    bytes[100] ^= 1;
-    fs::write(&file, &bytes).unwrap();
-    let output = run(CASES, &["--check", text]);
-    assert_one_line_and_failure(&output);
-    assert_eq!(output.status.code(), Some(1));
-    assert!(String::from_utf8_lossy(&output.stderr).contains("differs"));
-    // Checking wrote nothing.
-    assert_eq!(fs::read(&file).unwrap(), bytes);
+    for file in case_files() {
+        let path = root.join("crates").join(&file);
+        let good = fs::read(&path).unwrap();
+        let committed = Path::new(env!("CARGO_MANIFEST_DIR")).join("../crates");
+        assert_eq!(fs::read(committed.join(&file)).unwrap(), good, "{file:?}");
+        let mut bytes = good.clone();
+        bytes[100] ^= 1;
+        fs::write(&path, &bytes).unwrap();
+        let output = run(CASES, &["--check", text]);
+        assert_one_line_and_failure(&output);
+        assert_eq!(output.status.code(), Some(1));
+        let said = String::from_utf8_lossy(&output.stderr);
+        assert!(said.contains("differs"));
+        assert!(said.contains(file.to_str().unwrap()));
+        // Checking wrote nothing.
+        assert_eq!(fs::read(&path).unwrap(), bytes);
+        fs::remove_file(&path).unwrap();
+        assert_one_line_and_failure(&run(CASES, &["--check", text]));
+        fs::write(&path, &good).unwrap();
+        assert!(run(CASES, &["--check", text]).status.success());
+    }
+}
+
+/// The files of every program, below `crates/`.
+fn case_files() -> Vec<PathBuf> {
+    let names = ["condition_cases", "sheet_cases"];
+    assert!(PROGRAMS.iter().map(|program| program.name).eq(names));
+    let files = |name| ["stdin", "stdout"].map(|file| Path::new(name).join(file));
+    names.into_iter().flat_map(files).collect()
 }
 
 #[test]
