@@ -1,0 +1,3 @@
+-- The monitor on a sheet, and the published definition of its verdicts.
+pub mod Monitor
+pub mod Published

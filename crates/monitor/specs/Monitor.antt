@@ -1,0 +1,127 @@
+-- One event and a run of them on a sheet (document 01, "One event"), on states without padding.
+use mathlib.Core.Bool.{Bool, true, false, not, cond, _&&_}
+use mathlib.Core.Option.{Option, none, some}
+use mathlib.Core.List.{List, [], _∷_, _++_, map}
+use Prim.Native.Nat.{ℕ, zero, suc, _+_}
+use lib.Dec.{eqb}
+use lib.ListN.{getD}
+use Rattle.condition.specs.Meaning.{environment}
+use Rattle.sheet.specs.declared.Triple.{Triple}
+use Rattle.sheet.specs.Parts.{Common, Sheet}
+use Rattle.sheet.specs.Log.{Event}
+use Rattle.step.specs.declared.Verdict.{Verdict}
+use Rattle.step.specs.Lists.{first, keep, numbers, least}
+use Rattle.step.specs.Meets.{meets}
+use Rattle.step.specs.Moves.{Configuration, seen, moved}
+use Rattle.step.specs.Calls.{Call, isEntry, refusals, lowest}
+use Rattle.step.specs.Verdicts.{verdict}
+
+-- an open call with the numbers of the triples armed for it
+pub record Armed : Type 0 where
+  pub call : Call
+  pub armed : List ℕ
+
+pub record State : Type 0 where
+  pub configuration : Configuration
+  pub calls : List Armed
+  pub position : ℕ
+  pub verdict : Option Verdict
+
+-- "start state, initial values"
+abbrev pub initial : Sheet → Configuration
+initial S = record { main = S .common .start; variables = S .common .initial }
+
+-- "A fresh state ..: start state, initial values, no calls, position 0, no verdict."
+unfoldable pub fresh : Sheet → State
+fresh S = record { configuration = initial S; calls = []; position = 0; verdict = none }
+
+-- a triple by its number
+abbrev pub tripleIn : Sheet → ℕ → Triple
+tripleIn S i = getD (S .triples) i (record { state = 0; unit = 0; precondition = 0; postcondition = 0 })
+
+-- "in the state held before the event, every triple of that state and unit whose precondition holds is armed for this call"
+unfoldable pub arms : Sheet → Configuration → Event → Triple → Bool
+arms S k e t = eqb (t .state) (k .main) && (eqb (t .unit) (e .unit) && meets (S .common) (t .precondition) (seen e k))
+
+unfoldable pub armedBy : Sheet → Configuration → Event → List ℕ
+armedBy S k e = numbers (arms S k e) 0 (S .triples)
+
+-- "has its postcondition judged on the exit values, with the kept ones as values at entry"
+unfoldable pub fails : Sheet → Configuration → Event → Call → ℕ → Bool
+fails S k e c i = not (meets (S .common) (tripleIn S i .postcondition) (environment (e .values) (k .variables) (c .kept)))
+
+-- the lowest triple that fails at the exit of a call
+abbrev pub failing : Sheet → Configuration → Event → Option Armed → Option ℕ
+failing S k e none = none
+failing S k e (some a) = least (keep (fails S k e (a .call)) (a .armed))
+
+abbrev pub ofNumber : ℕ → Armed → Bool
+ofNumber n a = eqb (a .call .number) n
+
+-- an entry: "the P values are kept"
+unfoldable pub entered : Sheet → State → Event → State
+entered S σ e =
+    let to = moved (S .common) (S .transitions) (σ .configuration) e in
+    record {
+      configuration = to;
+      calls = σ .calls ++ record { call = record { number = e .number; unit = e .unit; kept = e .values }; armed = armedBy S (σ .configuration) e } ∷ [];
+      position = σ .position + 1;
+      verdict = verdict (S .common) (σ .position + 1) (to .main) none
+    }
+
+-- an exit: "every triple armed for this call ..; the call's place is then free"
+unfoldable pub exited : Sheet → State → Event → State
+exited S σ e =
+    let to = moved (S .common) (S .transitions) (σ .configuration) e in
+    record {
+      configuration = to;
+      calls = keep (λ a. not (ofNumber (e .number) a)) (σ .calls);
+      position = σ .position + 1;
+      verdict = verdict (S .common) (σ .position + 1) (to .main) (failing S (σ .configuration) e (first (ofNumber (e .number)) (σ .calls)))
+    }
+
+abbrev pub isJudged : Option Verdict → Bool
+isJudged none = false
+isJudged (some v) = true
+
+-- the lowest of refusals 10 to 15, or 0
+unfoldable pub refusal : Sheet → State → Event → ℕ
+refusal S σ e = lowest (refusals (S .common) (isJudged (σ .verdict)) (σ .position) (map (λ a. a .call) (σ .calls)) e)
+
+-- what an event comes to: 0 where it is taken, or the refusal's number, and the state that comes back
+pub record Offered : Type 0 where
+  pub answer : ℕ
+  pub state : State
+
+-- "An event that meets one of 10-15 is refused with the lowest and changes nothing; any other is taken"
+abbrev pub offered : ℕ → State → State → Offered
+offered zero σ τ = record { answer = 0; state = τ }
+offered (suc n) σ τ = record { answer = suc n; state = σ }
+
+unfoldable pub offer : Sheet → State → Event → Offered
+offer S σ e = offered (refusal S σ e) σ (cond (isEntry e) (entered S σ e) (exited S σ e))
+
+-- what a run comes to
+pub data Ran : Type 0 where
+  violated : Verdict → Ran
+  clean : State → Ran
+  refusedAt : ℕ → ℕ → Ran
+
+abbrev pub unlessJudged : Option Verdict → Ran → Ran
+unlessJudged none rest = rest
+unlessJudged (some v) rest = violated v
+
+abbrev pub unlessRefused : ℕ → ℕ → Ran → Ran
+unlessRefused zero i rest = rest
+unlessRefused (suc n) i rest = refusedAt (suc n) i
+
+-- "Then events until a verdict; a refused event ends the run with its number and record, from 1. Records after a verdict aren't judged."
+unfoldable pub runFrom : Sheet → ℕ → State → List Event → Ran
+runFrom S i σ [] = clean σ
+runFrom S i σ (e ∷ es) =
+    let o = offer S σ e in
+    let rest = runFrom S (suc i) (o .state) es in
+    unlessRefused (o .answer) i (unlessJudged (o .state .verdict) rest)
+
+unfoldable pub run : Sheet → List Event → Ran
+run S es = runFrom S 1 (fresh S) es

@@ -1,0 +1,30 @@
+-- Lists: the first element that passes a test, those that pass it, the least of some numbers.
+use mathlib.Core.Bool.{Bool, true, false, cond}
+use mathlib.Core.Option.{Option, none, some}
+use mathlib.Core.List.{List, [], _∷_}
+use Prim.Native.Nat.{ℕ, zero, suc, _+_, min}
+
+unfoldable pub first : {A : Type 0} → (A → Bool) → List A → Option A
+first p [] = none
+first p (x ∷ l) = cond (p x) (some x) (first p l)
+
+unfoldable pub keep : {A : Type 0} → (A → Bool) → List A → List A
+keep p [] = []
+keep p (x ∷ l) = cond (p x) (x ∷ keep p l) (keep p l)
+
+unfoldable pub any : {A : Type 0} → (A → Bool) → List A → Bool
+any p [] = false
+any p (x ∷ l) = cond (p x) true (any p l)
+
+-- the numbers of the elements that pass a test, from a first number on
+unfoldable pub numbers : {A : Type 0} → (A → Bool) → ℕ → List A → List ℕ
+numbers p i [] = []
+numbers p i (x ∷ l) = cond (p x) (i ∷ numbers p (suc i) l) (numbers p (suc i) l)
+
+abbrev pub lesser : ℕ → Option ℕ → Option ℕ
+lesser n none = some n
+lesser n (some m) = some (min n m)
+
+unfoldable pub least : List ℕ → Option ℕ
+least [] = none
+least (n ∷ l) = lesser n (least l)

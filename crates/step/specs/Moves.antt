@@ -1,0 +1,34 @@
+-- Transitions (document 01, "One event"; source document 003, definition 3).
+use mathlib.Core.Bool.{Bool, _&&_}
+use mathlib.Core.Option.{Option, none, some}
+use mathlib.Core.List.{List, []}
+use Prim.Native.Nat.{ℕ}
+use lib.Dec.{eqb}
+use Rattle.condition.specs.Meaning.{Environment, environment}
+use Rattle.sheet.specs.declared.Transition.{Transition}
+use Rattle.sheet.specs.Parts.{Common}
+use Rattle.sheet.specs.Log.{Event}
+use Rattle.step.specs.Lists.{first}
+use Rattle.step.specs.Meets.{meets, acted}
+
+-- "configuration (q, ν)": the main state and the monitor variables
+pub record Configuration : Type 0 where
+  pub main : ℕ
+  pub variables : List ℕ
+
+-- "A condition on a transition sees the event's values and the monitor variables before the action."
+abbrev pub seen : Event → Configuration → Environment
+seen e k = environment (e .values) (k .variables) []
+
+-- a transition "with this state, kind and unit whose condition holds"
+unfoldable pub enabled : Common → Configuration → Event → Transition → Bool
+enabled C k e t = eqb (t .from) (k .main) && (eqb (t .kind) (e .kind) && (eqb (t .unit) (e .unit) && meets C (t .condition) (seen e k)))
+
+-- "is taken: action, then new state. If none holds, state and variables stay."
+abbrev pub after : Common → Configuration → Event → Option Transition → Configuration
+after C k e none = k
+after C k e (some t) = record { main = t .to; variables = acted C (t .action) (seen e k) }
+
+-- "the first transition in sheet order"
+unfoldable pub moved : Common → List Transition → Configuration → Event → Configuration
+moved C ts k e = after C k e (first (enabled C k e) ts)
