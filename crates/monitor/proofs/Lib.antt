@@ -1,0 +1,2 @@
+-- The laws of the monitor's definitions.
+pub mod Rows
