@@ -4,3 +4,4 @@ pub mod Meets
 pub mod Moves
 pub mod Calls
 pub mod Verdicts
+pub mod Walk

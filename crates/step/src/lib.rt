@@ -1,5 +1,15 @@
 // What the engines on a sheet and on a network share.
 
+ghost use mathlib.Core.Path.{_≡_};
+ghost use mathlib.Core.List.{[]};
+ghost use Prim.Native.Nat.{_≤_, _<_};
+ghost use lib.ListN.{drop};
+ghost use Rattle.condition.specs.Meaning.{environment};
+ghost use Rattle.condition.specs.Answer.{conditionPaper};
+ghost use Rattle.sheet.specs.Decode.{transitionOf};
+ghost use Rattle.step.specs.Walk.{trueOf, meetsAt, enabledAt, baseForm, firstPlace};
+use condition::ConditionAnswer;
+
 // Why a verdict is complete: the bad state, the lowest failing triple, or both.
 pub enum Cause {
     BadState(u8),
@@ -11,4 +21,120 @@ pub enum Cause {
 pub struct Verdict {
     pub position: u32,
     pub cause: Cause,
+}
+
+// What a transition is looked for: the state it leaves, and the event's kind and unit.
+pub struct Key {
+    pub from: u8,
+    pub kind: u8,
+    pub unit: u8,
+}
+
+// Where a transition stands, if there is one.
+pub enum Found {
+    At(u32),
+    Nothing,
+}
+
+// Whether a condition holds over the lent values, by its number in the index of a sheet or network.
+pub fn condition_holds(
+    s: &[u8],
+    index: &[u32; 65],
+    i: u8,
+    program: &[u32],
+    monitor: &[u32],
+    kept: &[u32],
+) -> bool
+    ensures { λ r. ⌜ r ≡ meetsAt (now (s .entry)) (now (index .entry)) i (environment (now (program .entry)) (now (monitor .entry)) (now (kept .entry))) ⌝ }
+{
+    let k = number(i);
+    if k < 65 {
+        truth(condition::evaluate_condition(sheet::text_at(s, index[k]), program, monitor, kept))
+    } else {
+        false
+    }
+}
+
+// The first of n transitions from a place on that leaves the state, has the event's kind and unit,
+// and whose condition holds. Those of a network carry pairs.
+pub fn first_enabled(
+    s: &[u8],
+    at: u16,
+    n: u8,
+    paired: bool,
+    key: Key,
+    index: &[u32; 65],
+    values: &[u32],
+    variables: &[u32],
+) -> Found
+    ensures { λ r. ⌜ r ≡ firstPlace (enabledAt (now (s .entry)) (now (index .entry)) key (environment (now (values .entry)) (now (variables .entry)) [])) (baseForm paired) n (now (s .entry)) at ⌝ }
+{
+    let mut place = wide(at);
+    let mut left = number(n);
+    while 0 < left {
+        if enabled(s, place, key, index, values, variables) {
+            return Found::At(place);
+        }
+        place = place + size(s, place, paired);
+        left -= 1;
+    }
+    Found::Nothing
+}
+
+// Whether the transition at a place can be taken. Its condition is evaluated only where the rest fits.
+fn enabled(
+    s: &[u8],
+    at: u32,
+    key: Key,
+    index: &[u32; 65],
+    values: &[u32],
+    variables: &[u32],
+) -> bool
+    ensures { λ r. ⌜ r ≡ enabledAt (now (s .entry)) (now (index .entry)) key (environment (now (values .entry)) (now (variables .entry)) []) (transitionOf (drop at (now (s .entry)))) ⌝ }
+{
+    let t = sheet::transition_at(s, at);
+    if (t.from == key.from) & ((t.kind == key.kind) & (t.unit == key.unit)) {
+        condition_holds(s, index, t.condition, values, variables, &values[..0])
+    } else {
+        false
+    }
+}
+
+// How many bytes the transition at a place takes.
+fn size(s: &[u8], at: u32, paired: bool) -> u32
+    requires { ⌜ at ≤ 1000000 ⌝ }
+    ensures { λ r. ⌜ (r ≡ baseForm paired .size (drop at (now (s .entry)))) × (r ≤ 517) ⌝ }
+{
+    if paired {
+        7 + 2 * pairs(sheet::byte_at(s, at + 6))
+    } else {
+        6
+    }
+}
+
+fn pairs(x: u8) -> u32
+    ensures { λ r. ⌜ (r ≡ x) × (r < 256) ⌝ }
+{
+    x as u32
+}
+
+fn number(x: u8) -> usize
+    ensures { λ r. ⌜ (r ≡ x) × (r < 256) ⌝ }
+{
+    x as usize
+}
+
+fn wide(x: u16) -> u32
+    ensures { λ r. ⌜ (r ≡ x) × (r < 65536) ⌝ }
+{
+    x as u32
+}
+
+fn truth(a: ConditionAnswer) -> bool
+    ensures { λ r. ⌜ r ≡ trueOf (conditionPaper a) ⌝ }
+{
+    match a {
+        ConditionAnswer::Is(b) => b,
+        ConditionAnswer::Refused(_) => false,
+    }
 }

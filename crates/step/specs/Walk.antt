@@ -1,0 +1,37 @@
+-- What the operations on the bytes answer, for all bytes and all indexes. On accepted ones they are the definitions of Meets and Moves.
+use mathlib.Core.Bool.{Bool, true, false, cond, _&&_}
+use mathlib.Core.List.{List}
+use Prim.Native.Nat.{ℕ, zero, suc, _+_, _*_}
+use lib.Dec.{ltb, eqb}
+use lib.ListN.{getD, drop}
+use Rattle.condition.specs.Meaning.{Environment}
+use Rattle.condition.specs.Answer.{Outcome, refused, given, conditionOutcome}
+use Rattle.sheet.specs.declared.Transition.{Transition}
+use Rattle.sheet.specs.Bytes.{byte}
+use Rattle.sheet.specs.Table.{Form}
+use Rattle.sheet.specs.Decode.{textForm, transitionOf}
+use Rattle.step.specs.declared.Key.{Key}
+use Rattle.step.specs.declared.Found.{Found}
+use Rattle.step.specs.declared.Found.the-variants.{At, Nothing}
+
+-- given and true; what is refused does not hold
+abbrev pub trueOf : Outcome Bool → Bool
+trueOf (refused n) = false
+trueOf (given b) = b
+
+-- a condition by its number in an index of 65 places
+abbrev pub meetsAt : List ℕ → List ℕ → ℕ → Environment → Bool
+meetsAt s index i E = ltb i 65 && trueOf (conditionOutcome (textForm .value (drop (getD index i 0) s)) E)
+
+-- a transition with this state, kind and unit whose condition holds
+abbrev pub enabledAt : List ℕ → List ℕ → Key → Environment → Transition → Bool
+enabledAt s index k E t = (eqb (t .from) (k .from) && (eqb (t .kind) (k .kind) && eqb (t .unit) (k .unit))) && meetsAt s index (t .condition) E
+
+-- a transition without its pairs, in a table with pairs or without
+abbrev pub baseForm : Bool → Form Transition
+baseForm paired = record { value = transitionOf; size = λ s. cond paired (7 + 2 * byte s 6) 6 }
+
+-- the place of the first record that passes a test
+unfoldable pub firstPlace : {A : Type 0} → (A → Bool) → Form A → ℕ → List ℕ → ℕ → Found
+firstPlace p F zero s a = Nothing
+firstPlace p F (suc n) s a = cond (p (F .value (drop a s))) (At a) (firstPlace p F n s (a + F .size (drop a s)))
