@@ -1,23 +1,26 @@
 -- Looking for the first transition that can be taken. Assumes nothing.
 use mathlib.Core.Path.{_≡_, refl, sym, ap, _∙_}
 use mathlib.Core.Bool.{Bool, true, false, cond, _&&_}
-use mathlib.Core.List.{List}
+use mathlib.Core.List.{List, []}
 use Prim.Native.Nat.{ℕ, zero, suc, _+_, _-_, _*_, _≤_, _<_}
 use native.Mathlib.Nat.{mul-suc}
-use native.Mathlib.Numerals.{sub-one}
+use native.Mathlib.Numerals.{add-one, sub-one}
 use native.Mathlib.Omega.{arith}
-use borrow.Author.Tests.{lt-ltb, le-ltb}
+use borrow.Author.Tests.{lt-ltb, le-ltb, eq-eqb, ne-eqb}
 use lib.Dec.{eqb}
-use lib.ListN.{getD, drop}
-use Rattle.condition.specs.Meaning.{Environment}
-use Rattle.condition.specs.Answer.{Outcome, conditionOutcome}
+use lib.ListN.{length, getD, take, drop, drop-of-length-le, length-take}
+use lib.Seq.{drop-cons, getD-take}
+use Rattle.condition.specs.Meaning.{Environment, environment}
+use Rattle.condition.specs.Answer.{Outcome, conditionOutcome, actionOutcome, actionPaper}
+use Rattle.condition.specs.declared.Performed.{Performed}
 use Rattle.sheet.specs.declared.Transition.{Transition}
 use Rattle.sheet.specs.Table.{Form}
 use Rattle.sheet.specs.Decode.{textForm}
+use Rattle.step.specs.declared.Call.{Call}
 use Rattle.step.specs.declared.Key.{Key}
 use Rattle.step.specs.declared.Found.{Found}
 use Rattle.step.specs.declared.Found.the-variants.{At, Nothing}
-use Rattle.step.specs.Walk.{trueOf, meetsAt, enabledAt, firstPlace}
+use Rattle.step.specs.Walk.{trueOf, meetsAt, actedAt, placeOf, enabledAt, firstPlace}
 
 module _ (s index : List ℕ) (i : ℕ) (E : Environment) (k : ℕ) (e : k ≡ i) where
   pub holds-there : k < 65 → (t : List ℕ) → t ≡ textForm .value (drop (getD index k 0) s) → (a : Outcome Bool) → a ≡ conditionOutcome t E → (b : Bool) → b ≡ trueOf a → b ≡ meetsAt s index i E
@@ -60,3 +63,50 @@ module _ {A : Type 0} (p : A → Bool) (F : Form A) (most n : ℕ) (s : List ℕ
   unfolding firstPlace
   search-end place zero g z = g .same
   search-end place (suc left) g z = absurd (omega arith)
+
+module _ (s index : List ℕ) (i : ℕ) (program : List ℕ) (count : ℕ) (variables : List ℕ) (k : ℕ) (e : k ≡ i) where
+  pub acted-there : k < 65 → (t : List ℕ) → t ≡ textForm .value (drop (getD index k 0) s) → (d : Performed) → d ≡ actionPaper count variables (actionOutcome t (environment program (take count variables) [])) → d .variables ≡ actedAt s index i program count variables
+  acted-there h t f d x = rw (← e, lt-ltb k 65 h, ← f) (ap (λ (p : Performed). p .variables) x)
+
+  pub acted-past : 65 ≤ k → variables ≡ actedAt s index i program count variables
+  acted-past h = rw (← e, le-ltb k 65 h)
+
+-- looking for the first element of a list that passes a test, i of them passed
+pub record Passed {A : Type 0} (p : A → Bool) (l : List A) (i : ℕ) : Type 0 where
+  pub same : placeOf p l ≡ i + placeOf p (drop i l)
+  pub low : i ≤ length l
+
+module _ {A : Type 0} (p : A → Bool) (l : List A) where
+  pub passed-none : Passed p l 0
+  passed-none = record { same = omega arith; low = omega arith }
+
+  pub passed-end : (i : ℕ) → Passed p l i → length l ≤ i → i ≡ placeOf p l
+  unfolding placeOf
+  passed-end i g h = sym (g .same ∙ rw (drop-of-length-le l h) (omega arith))
+
+  module _ (i : ℕ) (d : A) (g : Passed p l i) (h : i < length l) where
+    pub passed-found : p (getD l i d) ≡ true → i ≡ placeOf p l
+    unfolding placeOf
+    passed-found e = sym (g .same ∙ rw (drop-cons l i d h, e) (omega arith))
+
+    pub passed-more : p (getD l i d) ≡ false → Passed p l (i + 1)
+    unfolding placeOf
+    passed-more e = record { same = rw (add-one i) (omega (arith, rw (drop-cons l i d h, e) at (g .same))); low = omega arith }
+
+-- the same among the first `opened` of an array of calls
+module _ (calls : List Call) (opened n i : ℕ) (g : Passed (λ c. eqb (c .number) n) (take opened calls) i) where
+  pub call-far : length calls ≤ i → i ≡ placeOf (λ c. eqb (c .number) n) (take opened calls)
+  call-far h = passed-end (λ c. eqb (c .number) n) (take opened calls) i g (omega (arith, length-take opened calls))
+
+  pub call-end : opened ≤ i → i ≡ placeOf (λ c. eqb (c .number) n) (take opened calls)
+  call-end h = passed-end (λ c. eqb (c .number) n) (take opened calls) i g (omega (arith, length-take opened calls))
+
+  module _ (d : Call) (h : i < opened) (k : i < length calls) where
+    there : i < length (take opened calls)
+    there = omega (arith, length-take opened calls)
+
+    pub call-found : getD calls i d .number ≡ n → i ≡ placeOf (λ c. eqb (c .number) n) (take opened calls)
+    call-found e = passed-found (λ c. eqb (c .number) n) (take opened calls) i d g there (rw (getD-take opened calls i d h) (eq-eqb (getD calls i d .number) n e))
+
+    pub call-more : (getD calls i d .number ≡ n → ⊥) → Passed (λ c. eqb (c .number) n) (take opened calls) (i + 1)
+    call-more e = passed-more (λ c. eqb (c .number) n) (take opened calls) i d g there (rw (getD-take opened calls i d h) (ne-eqb (getD calls i d .number) n e))

@@ -1,11 +1,11 @@
 -- What the operations on the bytes answer, for all bytes and all indexes. On accepted ones they are the definitions of Meets and Moves.
 use mathlib.Core.Bool.{Bool, true, false, cond, _&&_}
-use mathlib.Core.List.{List}
+use mathlib.Core.List.{List, [], _∷_}
 use Prim.Native.Nat.{ℕ, zero, suc, _+_, _*_}
 use lib.Dec.{ltb, eqb}
-use lib.ListN.{getD, drop}
-use Rattle.condition.specs.Meaning.{Environment}
-use Rattle.condition.specs.Answer.{Outcome, refused, given, conditionOutcome}
+use lib.ListN.{getD, take, drop}
+use Rattle.condition.specs.Meaning.{Environment, environment}
+use Rattle.condition.specs.Answer.{Outcome, refused, given, conditionOutcome, actionOutcome, actionPaper}
 use Rattle.sheet.specs.declared.Transition.{Transition}
 use Rattle.sheet.specs.Bytes.{byte}
 use Rattle.sheet.specs.Table.{Form}
@@ -22,6 +22,15 @@ trueOf (given b) = b
 -- a condition by its number in an index of 65 places
 abbrev pub meetsAt : List ℕ → List ℕ → ℕ → Environment → Bool
 meetsAt s index i E = ltb i 65 && trueOf (conditionOutcome (textForm .value (drop (getD index i 0) s)) E)
+
+-- the variables after an action by its number
+abbrev pub actedAt : List ℕ → List ℕ → ℕ → List ℕ → ℕ → List ℕ → List ℕ
+actedAt s index i program count variables = cond (ltb i 65) (actionPaper count variables (actionOutcome (textForm .value (drop (getD index i 0) s)) (environment program (take count variables) [])) .variables) variables
+
+-- how many elements stand before the first that passes a test
+unfoldable pub placeOf : {A : Type 0} → (A → Bool) → List A → ℕ
+placeOf p [] = 0
+placeOf p (x ∷ l) = cond (p x) 0 (suc (placeOf p l))
 
 -- a transition with this state, kind and unit whose condition holds
 abbrev pub enabledAt : List ℕ → List ℕ → Key → Environment → Transition → Bool

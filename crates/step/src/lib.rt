@@ -3,11 +3,12 @@
 ghost use mathlib.Core.Path.{_≡_};
 ghost use mathlib.Core.List.{[]};
 ghost use Prim.Native.Nat.{_≤_, _<_};
-ghost use lib.ListN.{drop};
+ghost use lib.Dec.{eqb};
+ghost use lib.ListN.{take, drop};
 ghost use Rattle.condition.specs.Meaning.{environment};
 ghost use Rattle.condition.specs.Answer.{conditionPaper};
 ghost use Rattle.sheet.specs.Decode.{transitionOf};
-ghost use Rattle.step.specs.Walk.{trueOf, meetsAt, enabledAt, baseForm, firstPlace};
+ghost use Rattle.step.specs.Walk.{trueOf, meetsAt, actedAt, placeOf, enabledAt, baseForm, firstPlace};
 use condition::ConditionAnswer;
 
 // Why a verdict is complete: the bad state, the lowest failing triple, or both.
@@ -21,6 +22,13 @@ pub enum Cause {
 pub struct Verdict {
     pub position: u32,
     pub cause: Cause,
+}
+
+// An open call: its number, its unit, and the values kept at its entry.
+pub struct Call {
+    pub number: u16,
+    pub unit: u8,
+    pub kept: [u32; 8],
 }
 
 // What a transition is looked for: the state it leaves, and the event's kind and unit.
@@ -53,6 +61,51 @@ pub fn condition_holds(
     } else {
         false
     }
+}
+
+// The variables after an action, by its number in the index, over the event's values.
+pub fn perform_action(
+    s: &[u8],
+    index: &[u32; 65],
+    i: u8,
+    program: &[u32],
+    variables: [u32; 4],
+    count: usize,
+) -> [u32; 4]
+    ensures { λ r. ⌜ r ≡ actedAt (now (s .entry)) (now (index .entry)) i (now (program .entry)) count variables ⌝ }
+{
+    let k = number(i);
+    if k < 65 {
+        let done = condition::perform(
+            sheet::text_at(s, index[k]),
+            program,
+            variables,
+            count,
+            &program[..0],
+        );
+        done.variables
+    } else {
+        variables
+    }
+}
+
+// Where the call of a number stands among the first `opened` of sixteen, or `opened`.
+pub fn call_place(calls: [Call; 16], opened: usize, number: u16) -> usize
+    ensures { λ r. ⌜ r ≡ placeOf (λ c. eqb (c .number) number) (take opened calls) ⌝ }
+{
+    let mut i = 0;
+    while i < opened {
+        if i < 16 {
+            let c = calls[i];
+            if c.number == number {
+                return i;
+            }
+        } else {
+            return i;
+        }
+        i += 1;
+    }
+    i
 }
 
 // The first of n transitions from a place on that leaves the state, has the event's kind and unit,

@@ -1,0 +1,45 @@
+-- `call_place` meets its contract. Assumes nothing.
+use mathlib.Core.Path.{_≡_}
+use Prim.Native.Nat.{_-_}
+use borrow.Author.Needs.{needs}
+use native.Mathlib.Omega.{arith}
+use lib.Dec.{eqb}
+use lib.ListN.{length, take}
+use Rattle.step.proofs.Searching.{Passed, passed-none, call-far, call-end, call-found, call-more}
+use Rattle.step.proofs.call_place.Statement.{statement}
+use Rattle.step.proofs.call_place.Tie as tie
+
+abbrev Inv-loop : tie.InvT-loop
+Inv-loop opened number calls i₀ i = Passed (λ c. eqb (c .number) number) (take opened calls) i
+
+abbrev μ-loop : tie.MeasureT-loop
+μ-loop opened number calls i₀ i = opened - i
+
+loop-holds : tie.Need-loop-holds Inv-loop μ-loop
+loop-holds c = passed-none _ _
+
+returns : tie.Need-returns Inv-loop μ-loop
+returns c =
+    let a = c .before .before .before .before .before .before .args in
+    let long : length (a .t1) ≡ 16 = search needs in
+    call-found (a .t1) (a .opened) (a .number) _ (c .before .before .before .before .before .loop .inv) _ (c .before .before .before .before .loop-test .taken) (omega arith) (c .if2 .taken)
+
+returns-2 : tie.Need-returns-2 Inv-loop μ-loop
+returns-2 c =
+    let a = c .before .before .before .args in
+    let long : length (a .t1) ≡ 16 = search needs in
+    call-far (a .t1) (a .opened) (a .number) _ (c .before .before .loop .inv) (omega arith)
+
+loop-again : tie.Need-loop-again Inv-loop μ-loop
+loop-again c =
+    let a = c .before .before .before .before .before .before .args in
+    let long : length (a .t1) ≡ 16 = search needs in
+    call-more (a .t1) (a .opened) (a .number) _ (c .before .before .before .before .before .loop .inv) _ (c .before .before .before .before .loop-test .taken) (omega arith) (c .if2 .left)
+
+returns-3 : tie.Need-returns-3 Inv-loop μ-loop
+returns-3 c = call-end _ _ _ _ (c .before .loop .inv) (c .loop-test .left)
+
+pub call-place-spec : {M : Type 1} → statement M
+call-place-spec =
+    tie.close
+    (tie.spec Inv-loop μ-loop loop-holds (λ c. search needs) (λ c. search needs) returns returns-2 (λ c. search needs) (λ c. search needs) loop-again returns-3)
