@@ -1,13 +1,13 @@
 -- Looking for the first transition that can be taken. Assumes nothing.
 use mathlib.Core.Path.{_≡_, refl, sym, ap, _∙_}
 use mathlib.Core.Bool.{Bool, true, false, cond, _&&_}
-use mathlib.Core.List.{List, []}
+use mathlib.Core.List.{List, [], _∷_}
 use Prim.Native.Nat.{ℕ, zero, suc, _+_, _-_, _*_, _≤_, _<_}
 use native.Mathlib.Nat.{mul-suc}
 use native.Mathlib.Numerals.{add-one, sub-one}
 use native.Mathlib.Omega.{arith}
-use borrow.Author.Tests.{lt-ltb, le-ltb, eq-eqb, ne-eqb}
-use lib.Dec.{eqb}
+use borrow.Author.Tests.{lt-ltb, le-ltb}
+use lib.Dec.{eqb, ltb, leb·suc-suc}
 use lib.ListN.{length, getD, take, drop, drop-of-length-le, length-take}
 use lib.Seq.{drop-cons, getD-take}
 use Rattle.condition.specs.Meaning.{Environment, environment}
@@ -16,10 +16,10 @@ use Rattle.condition.specs.declared.Performed.{Performed}
 use Rattle.sheet.specs.declared.Transition.{Transition}
 use Rattle.sheet.specs.Table.{Form}
 use Rattle.sheet.specs.Decode.{textForm}
-use Rattle.step.specs.declared.Call.{Call}
 use Rattle.step.specs.declared.Key.{Key}
 use Rattle.step.specs.declared.Found.{Found}
 use Rattle.step.specs.declared.Found.the-variants.{At, Nothing}
+use Rattle.step.specs.Lists.{any}
 use Rattle.step.specs.Walk.{trueOf, meetsAt, actedAt, placeOf, enabledAt, firstPlace}
 
 module _ (s index : List ℕ) (i : ℕ) (E : Environment) (k : ℕ) (e : k ≡ i) where
@@ -93,20 +93,39 @@ module _ {A : Type 0} (p : A → Bool) (l : List A) where
     unfolding placeOf
     passed-more e = record { same = rw (add-one i) (omega (arith, rw (drop-cons l i d h, e) at (g .same))); low = omega arith }
 
--- the same among the first `opened` of an array of calls
-module _ (calls : List Call) (opened n i : ℕ) (g : Passed (λ c. eqb (c .number) n) (take opened calls) i) where
-  pub call-far : length calls ≤ i → i ≡ placeOf (λ c. eqb (c .number) n) (take opened calls)
-  call-far h = passed-end (λ c. eqb (c .number) n) (take opened calls) i g (omega (arith, length-take opened calls))
+-- there is one exactly if its place is within the list
+pub any-place : {A : Type 0} (p : A → Bool) (l : List A) → any p l ≡ ltb (placeOf p l) (length l)
+unfolding any placeOf
+any-place p [] = refl
+any-place p (x ∷ l) = go (p x) (any-place p l)
+  where
+    go : (b : Bool) → any p l ≡ ltb (placeOf p l) (length l) → cond b true (any p l) ≡ ltb (cond b 0 (suc (placeOf p l))) (suc (length l))
+    go true h = sym (lt-ltb 0 (suc (length l)) (omega arith))
+    go false h = h ∙ sym (leb·suc-suc (suc (placeOf p l)) (length l))
 
-  pub call-end : opened ≤ i → i ≡ placeOf (λ c. eqb (c .number) n) (take opened calls)
-  call-end h = passed-end (λ c. eqb (c .number) n) (take opened calls) i g (omega (arith, length-take opened calls))
+-- the same among the first `opened` of an array
+module _ {A : Type 0} (p : A → Bool) (calls : List A) (opened i : ℕ) (g : Passed p (take opened calls) i) where
+  pub call-far : length calls ≤ i → i ≡ placeOf p (take opened calls)
+  call-far h = passed-end p (take opened calls) i g (omega (arith, length-take opened calls))
 
-  module _ (d : Call) (h : i < opened) (k : i < length calls) where
+  pub call-end : opened ≤ i → i ≡ placeOf p (take opened calls)
+  call-end h = passed-end p (take opened calls) i g (omega (arith, length-take opened calls))
+
+  module _ (d : A) (h : i < opened) (k : i < length calls) where
     there : i < length (take opened calls)
     there = omega (arith, length-take opened calls)
 
-    pub call-found : getD calls i d .number ≡ n → i ≡ placeOf (λ c. eqb (c .number) n) (take opened calls)
-    call-found e = passed-found (λ c. eqb (c .number) n) (take opened calls) i d g there (rw (getD-take opened calls i d h) (eq-eqb (getD calls i d .number) n e))
+    pub call-found : p (getD calls i d) ≡ true → i ≡ placeOf p (take opened calls)
+    call-found e = passed-found p (take opened calls) i d g there (rw (getD-take opened calls i d h) e)
 
-    pub call-more : (getD calls i d .number ≡ n → ⊥) → Passed (λ c. eqb (c .number) n) (take opened calls) (i + 1)
-    call-more e = passed-more (λ c. eqb (c .number) n) (take opened calls) i d g there (rw (getD-take opened calls i d h) (ne-eqb (getD calls i d .number) n e))
+    pub call-more : p (getD calls i d) ≡ false → Passed p (take opened calls) (i + 1)
+    call-more e = passed-more p (take opened calls) i d g there (rw (getD-take opened calls i d h) e)
+
+    pub call-any : p (getD calls i d) ≡ true → true ≡ any p (take opened calls)
+    call-any e = sym (any-place p (take opened calls) ∙ lt-ltb (placeOf p (take opened calls)) (length (take opened calls)) (rw (call-found e) at there))
+
+  pub call-none : length calls ≤ i → false ≡ any p (take opened calls)
+  call-none h = sym (any-place p (take opened calls) ∙ le-ltb (placeOf p (take opened calls)) (length (take opened calls)) (omega (arith, call-far h, length-take opened calls)))
+
+  pub call-nothing : opened ≤ i → false ≡ any p (take opened calls)
+  call-nothing h = sym (any-place p (take opened calls) ∙ le-ltb (placeOf p (take opened calls)) (length (take opened calls)) (omega (arith, call-end h, length-take opened calls)))

@@ -10,6 +10,10 @@ use Rattle.sheet.specs.declared.Transition.{Transition}
 use Rattle.sheet.specs.Bytes.{byte}
 use Rattle.sheet.specs.Table.{Form}
 use Rattle.sheet.specs.Decode.{textForm, transitionOf}
+use Rattle.sheet.specs.declared.Record.{Record}
+use Rattle.sheet.specs.Log.{Event}
+use Rattle.step.specs.Calls as Calls
+use Rattle.step.specs.declared.Call.{Call}
 use Rattle.step.specs.declared.Key.{Key}
 use Rattle.step.specs.declared.Found.{Found}
 use Rattle.step.specs.declared.Found.the-variants.{At, Nothing}
@@ -44,3 +48,10 @@ baseForm paired = record { value = transitionOf; size = λ s. cond paired (7 + 2
 unfoldable pub firstPlace : {A : Type 0} → (A → Bool) → Form A → ℕ → List ℕ → ℕ → Found
 firstPlace p F zero s a = Nothing
 firstPlace p F (suc n) s a = cond (p (F .value (drop a s))) (At a) (firstPlace p F n s (a + F .size (drop a s)))
+
+-- a call without its padding, and an event as its record and its values
+abbrev pub unpad : ℕ → Call → Calls.Call
+unpad programs c = record { number = c .number; unit = c .unit; kept = take programs (c .kept) }
+
+abbrev pub eventOf : Record → List ℕ → Event
+eventOf r values = record { kind = r .kind; unit = r .unit; number = r .number; values = values }

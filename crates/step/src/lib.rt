@@ -1,15 +1,19 @@
 // What the engines on a sheet and on a network share.
 
 ghost use mathlib.Core.Path.{_≡_};
-ghost use mathlib.Core.List.{[]};
+ghost use mathlib.Core.Bool.{cond, _&&_};
+ghost use mathlib.Core.List.{[], map};
 ghost use Prim.Native.Nat.{_≤_, _<_};
 ghost use lib.Dec.{eqb};
 ghost use lib.ListN.{take, drop};
 ghost use Rattle.condition.specs.Meaning.{environment};
 ghost use Rattle.condition.specs.Answer.{conditionPaper};
 ghost use Rattle.sheet.specs.Decode.{transitionOf};
-ghost use Rattle.step.specs.Walk.{trueOf, meetsAt, actedAt, placeOf, enabledAt, baseForm, firstPlace};
+ghost use Rattle.step.specs.Lists.{any};
+ghost use Rattle.step.specs.Calls.{refusalsFor, lowest};
+ghost use Rattle.step.specs.Walk.{unpad, eventOf, trueOf, meetsAt, actedAt, placeOf, enabledAt, baseForm, firstPlace};
 use condition::ConditionAnswer;
+use sheet::Record;
 
 // Why a verdict is complete: the bad state, the lowest failing triple, or both.
 pub enum Cause {
@@ -106,6 +110,69 @@ pub fn call_place(calls: [Call; 16], opened: usize, number: u16) -> usize
         i += 1;
     }
     i
+}
+
+// Whether a call of a number is open for a unit among the first `opened` of sixteen.
+pub fn call_open_for(calls: [Call; 16], opened: usize, number: u16, unit: u8) -> bool
+    ensures { λ r. ⌜ r ≡ any (λ c. eqb (c .number) number && eqb (c .unit) unit) (take opened calls) ⌝ }
+{
+    let mut i = 0;
+    while i < opened {
+        if i < 16 {
+            let c = calls[i];
+            if (c.number == number) & (c.unit == unit) {
+                return true;
+            }
+        } else {
+            return false;
+        }
+        i += 1;
+    }
+    false
+}
+
+// The lowest of refusals 10 to 15 that an event meets, or 0: for so many units and program
+// variables, at a position, with or without a verdict, with the first `opened` calls open.
+pub fn refusal(
+    units: u8,
+    programs: u8,
+    judged: bool,
+    position: u32,
+    calls: [Call; 16],
+    opened: usize,
+    event: Record,
+    values: &[u32],
+) -> u8
+    ensures { λ r. ⌜ r ≡ lowest (refusalsFor units programs judged position (map (unpad programs) (take opened calls)) (eventOf event (now (values .entry)))) ⌝ }
+{
+    let place = call_place(calls, opened, event.number);
+    let known = call_open_for(calls, opened, event.number, event.unit);
+    let entry = event.kind == 0;
+    let exit = event.kind == 1;
+    let wrong = !((event.kind <= 1) & ((event.unit < units) & (values.len() == number(programs))));
+    pick(
+        judged,
+        10,
+        pick(
+            wrong,
+            11,
+            pick(
+                position == 4294967295,
+                12,
+                pick(
+                    entry & ((place < opened) & (place < 16)),
+                    13,
+                    pick(entry & (16 <= opened), 14, pick(exit & !known, 15, 0)),
+                ),
+            ),
+        ),
+    )
+}
+
+fn pick(test: bool, n: u8, rest: u8) -> u8
+    ensures { λ r. ⌜ r ≡ cond test n rest ⌝ }
+{
+    if test { n } else { rest }
 }
 
 // The first of n transitions from a place on that leaves the state, has the event's kind and unit,

@@ -3,8 +3,10 @@ use mathlib.Core.Path.{_≡_}
 use Prim.Native.Nat.{_-_}
 use borrow.Author.Needs.{needs}
 use native.Mathlib.Omega.{arith}
+use borrow.Author.Tests.{eq-eqb, ne-eqb}
 use lib.Dec.{eqb}
 use lib.ListN.{length, take}
+use Rattle.step.specs.declared.Call.{Call}
 use Rattle.step.proofs.Searching.{Passed, passed-none, call-far, call-end, call-found, call-more}
 use Rattle.step.proofs.call_place.Statement.{statement}
 use Rattle.step.proofs.call_place.Tie as tie
@@ -22,19 +24,19 @@ returns : tie.Need-returns Inv-loop μ-loop
 returns c =
     let a = c .before .before .before .before .before .before .args in
     let long : length (a .t1) ≡ 16 = search needs in
-    call-found (a .t1) (a .opened) (a .number) _ (c .before .before .before .before .before .loop .inv) _ (c .before .before .before .before .loop-test .taken) (omega arith) (c .if2 .taken)
+    call-found (λ (x : Call). eqb (x .number) (a .number)) (a .t1) (a .opened) _ (c .before .before .before .before .before .loop .inv) _ (c .before .before .before .before .loop-test .taken) (omega arith) (eq-eqb _ _ (c .if2 .taken))
 
 returns-2 : tie.Need-returns-2 Inv-loop μ-loop
 returns-2 c =
     let a = c .before .before .before .args in
     let long : length (a .t1) ≡ 16 = search needs in
-    call-far (a .t1) (a .opened) (a .number) _ (c .before .before .loop .inv) (omega arith)
+    call-far (λ (x : Call). eqb (x .number) (a .number)) (a .t1) (a .opened) _ (c .before .before .loop .inv) (omega arith)
 
 loop-again : tie.Need-loop-again Inv-loop μ-loop
 loop-again c =
     let a = c .before .before .before .before .before .before .args in
     let long : length (a .t1) ≡ 16 = search needs in
-    call-more (a .t1) (a .opened) (a .number) _ (c .before .before .before .before .before .loop .inv) _ (c .before .before .before .before .loop-test .taken) (omega arith) (c .if2 .left)
+    call-more (λ (x : Call). eqb (x .number) (a .number)) (a .t1) (a .opened) _ (c .before .before .before .before .before .loop .inv) _ (c .before .before .before .before .loop-test .taken) (omega arith) (ne-eqb _ _ (c .if2 .left))
 
 returns-3 : tie.Need-returns-3 Inv-loop μ-loop
 returns-3 c = call-end _ _ _ _ (c .before .loop .inv) (c .loop-test .left)

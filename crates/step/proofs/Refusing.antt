@@ -1,0 +1,58 @@
+-- The refusals of an event, from the places of its call. Assumes nothing.
+use mathlib.Core.Path.{_≡_, refl, sym, ap, ap₂, _∙_}
+use mathlib.Core.Bool.{Bool, true, false, not, cond, _&&_}
+use mathlib.Core.List.{List, [], _∷_, map}
+use Prim.Native.Nat.{ℕ, min, _≤_, _<_}
+use native.Mathlib.Omega.{arith}
+use borrow.Author.Tests.{lt-ltb, le-ltb, ltb-true, ltb-false, le-leb, lt-leb, leb-true, leb-false}
+use lib.Dec.{leb, ltb, eqb}
+use lib.ListN.{length, take, length-take, length-map}
+use Rattle.sheet.specs.declared.Record.{Record}
+use Rattle.step.specs.declared.Call.{Call}
+use Rattle.step.specs.Lists.{any}
+use Rattle.step.specs.Calls.{lastPosition, refusalsFor, lowest, openNumber, openFor}
+use Rattle.step.specs.Walk.{placeOf, unpad, eventOf}
+use Rattle.step.proofs.Searching.{any-place}
+
+any-map : {A B : Type 0} (p : B → Bool) (f : A → B) (l : List A) → any p (map f l) ≡ any (λ x. p (f x)) l
+unfolding any
+any-map p f [] = refl
+any-map p f (x ∷ l) = ap (cond (p (f x)) true) (any-map p f l)
+
+-- below the lesser of two is below both
+below-min : (k m n : ℕ) → (ltb k m && ltb k n) ≡ ltb k (min m n)
+below-min k m n = go (ltb k m) refl (ltb k n) refl
+  where
+    go : (a : Bool) → ltb k m ≡ a → (b : Bool) → ltb k n ≡ b → (a && b) ≡ ltb k (min m n)
+    go true e true f = sym (lt-ltb k (min m n) (omega (arith, ltb-true k m e, ltb-true k n f)))
+    go true e false f = sym (le-ltb k (min m n) (omega (arith, ltb-false k n f)))
+    go false e b f = sym (le-ltb k (min m n) (omega (arith, ltb-false k m e)))
+
+full-min : (m : ℕ) → leb 16 m ≡ leb 16 (min m 16)
+full-min m = go (leb 16 m) refl
+  where
+    go : (a : Bool) → leb 16 m ≡ a → a ≡ leb 16 (min m 16)
+    go true e = sym (le-leb 16 (min m 16) (omega (arith, leb-true 16 m e)))
+    go false e = sym (lt-leb 16 (min m 16) (omega (arith, leb-false 16 m e)))
+
+module _ (programs : ℕ) (calls : List Call) (opened : ℕ) (long : length calls ≡ 16) (number unit : ℕ) where
+  shown : length (take opened calls) ≡ min opened 16
+  shown = length-take opened calls ∙ ap (min opened) long
+
+  open-there : (place : ℕ) → place ≡ placeOf (λ c. eqb (c .number) number) (take opened calls) → (ltb place opened && ltb place 16) ≡ openNumber number (map (unpad programs) (take opened calls))
+  open-there place e = below-min place opened 16 ∙ sym (any-map (λ c. eqb (c .number) number) (unpad programs) (take opened calls) ∙ any-place (λ c. eqb (c .number) number) (take opened calls) ∙ rw (shown, e))
+
+  full-there : leb 16 opened ≡ leb 16 (length (map (unpad programs) (take opened calls)))
+  full-there = full-min opened ∙ sym (ap (leb 16) (length-map (take opened calls) (unpad programs) ∙ shown))
+
+  for-there : any (λ c. eqb (c .number) number && eqb (c .unit) unit) (take opened calls) ≡ any (λ c. eqb (c .number) number && eqb (c .unit) unit) (map (unpad programs) (take opened calls))
+  for-there = sym (any-map (λ c. eqb (c .number) number && eqb (c .unit) unit) (unpad programs) (take opened calls))
+
+pub refusal-found :
+    (units programs : ℕ) (judged : Bool) (position : ℕ) (calls : List Call) (opened : ℕ) (r : Record) (values : List ℕ) (n place : ℕ) (known : Bool) →
+    length calls ≡ 16 → n ≡ programs → place ≡ placeOf (λ c. eqb (c .number) (r .number)) (take opened calls) → known ≡ any (λ c. eqb (c .number) (r .number) && eqb (c .unit) (r .unit)) (take opened calls) →
+    cond judged 10 (cond (not (leb (r .kind) 1 && (ltb (r .unit) units && eqb (length values) n))) 11 (cond (eqb position lastPosition) 12 (cond (eqb (r .kind) 0 && (ltb place opened && ltb place 16)) 13 (cond (eqb (r .kind) 0 && leb 16 opened) 14 (cond (eqb (r .kind) 1 && not known) 15 0)))))
+    ≡ lowest (refusalsFor units programs judged position (map (unpad programs) (take opened calls)) (eventOf r values))
+unfolding lowest
+refusal-found units programs judged position calls opened r values n place known long en ep ek =
+    rw (en, open-there programs calls opened long (r .number) (r .unit) place ep, full-there programs calls opened long (r .number) (r .unit), ek, for-there programs calls opened long (r .number) (r .unit))
