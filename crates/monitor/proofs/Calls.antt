@@ -1,0 +1,1 @@
+-- What a monitor holds after the events of a trace: the trace's configuration, its length, and the calls that it leaves open. Assumes nothing.

@@ -1,0 +1,3 @@
+-- The monitor against the published definition.
+pub mod Traces
+pub mod Calls

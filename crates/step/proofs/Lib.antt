@@ -1,0 +1,2 @@
+-- The laws that the engines' proofs cite.
+pub mod Lists
