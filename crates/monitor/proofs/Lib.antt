@@ -1,3 +1,4 @@
 -- The monitor against the published definition.
 pub mod Traces
 pub mod Calls
+pub mod Broken
