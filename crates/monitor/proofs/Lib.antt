@@ -2,3 +2,5 @@
 pub mod Traces
 pub mod Calls
 pub mod Broken
+pub mod Found
+pub mod Published
