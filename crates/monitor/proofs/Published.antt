@@ -165,3 +165,49 @@ module _ (S : Sheet) (plain : Plain S) where
         stopped : (m : ℕ) → refusal S (h .state) (h .e) ≡ m → (m ≡ 0 → ⊥) → runFrom S (suc (length (h .w))) (h .state) (h .e ∷ h .rest) ≡ refusedAt m i
         stopped zero q z = absurd (z refl)
         stopped (suc m) q z = run-refused S (suc (length (h .w))) (h .state) (h .e) (h .rest) m q ∙ ap (λ j. refusedAt (suc m) j) (omega (arith, h .place))
+
+-- What a run comes to, for any events: it ends in a verdict just where the events up to one of them are taken and are the first counterexample, with that
+-- counterexample's position, bad state and lowest triple; it ends in a refusal just where an event is refused after events that hold no counterexample; and it is
+-- clean just where all events are taken and hold none.
+pub record Published (S : Sheet) (es : List Event) : Type 0 where
+  pub whenViolated : (v : Verdict) → run S es ≡ violated v ↔ Violated S es v
+  pub whenRefused : (n i : ℕ) → run S es ≡ refusedAt n i ↔ Refused S es n i
+  pub whenClean : (σ : State) → run S es ≡ clean σ ↔ Clean S es σ
+
+module _ (S : Sheet) (plain : Plain S) where
+  pub published : (es : List Event) → Published S es
+  published es =
+      record {
+        whenViolated = λ v. (outcome-violated S plain es (run S es) v (run-outcome S plain es), violated-run S plain es v);
+        whenRefused = λ n i. (outcome-refused S plain es (run S es) n i (run-outcome S plain es), refused-run S plain es n i);
+        whenClean = λ σ. (outcome-clean S plain es (run S es) σ (run-outcome S plain es), clean-run S plain es σ);
+      }
+
+  -- The same, said of the single answers.
+  pub clean-no-counterexample : (w : List Event) (σ : State) → runFrom S 1 (fresh S) w ≡ clean σ
+      → ((u v : List Event) → w ≡ u ++ v → Counterexample S u → ⊥) × (σ .position ≡ length w) × (σ .configuration ≡ reached S w) × (σ .verdict ≡ none)
+  unfolding run
+  clean-no-counterexample w σ h = let c = published w .whenClean σ .0 h in (c .clear, c .position, c .configuration, c .unjudged)
+
+  -- what was run before a verdict, or before a refusal, was clean
+  pub violated-before : (es : List Event) (v : Verdict) (h : Violated S es v) → run S (h .w) ≡ clean (h .state)
+  violated-before es v h = clean-run S plain (h .w) (h .state) (clean-taken S plain (h .taken) (unjudged S (h .state) (h .e) (h .taking)))
+
+  pub refused-before : (es : List Event) (n i : ℕ) (h : Refused S es n i) → run S (h .w) ≡ clean (h .state)
+  refused-before es n i h = clean-run S plain (h .w) (h .state) (clean-taken S plain (h .taken) (clear-unjudged S plain (h .taken) (h .before)))
+
+  pub run-violated : (es : List Event) (v : Verdict) → run S es ≡ violated v
+      → (w : List Event) × (e : Event) × (rest : List Event) × (σ : State) × (es ≡ w ++ e ∷ rest) × (run S w ≡ clean σ) × (v .position ≡ length w + 1) × Finds S (w ++ e ∷ []) v
+  run-violated es v q =
+      let h = published es .whenViolated v .0 q in
+      (h .w, h .e, h .rest, h .state, h .parts, violated-before es v h, h .finds .position ∙ length-append (h .w) (h .e ∷ []), h .finds)
+
+  -- and a counterexample ends the run, whatever comes after it
+  pub counterexample-run : (w : List Event) (e : Event) (rest : List Event) (σ : State) → Taken S w σ → refusal S σ e ≡ 0 → Counterexample S (w ++ e ∷ [])
+      → (v : Verdict) × (run S (w ++ e ∷ rest) ≡ violated v) × Finds S (w ++ e ∷ []) v
+  counterexample-run w e rest σ t h c = judged (offer S σ e .state .verdict) refl
+    where
+      judged : (o : Option Verdict) → offer S σ e .state .verdict ≡ o → (v : Verdict) × (run S (w ++ e ∷ rest) ≡ violated v) × Finds S (w ++ e ∷ []) v
+      judged none q = absurd (unjudged-none S plain t e h q c)
+      judged (some v) q =
+          (v, run-taken S t (unjudged S σ e h) (e ∷ rest) ∙ run-judged S (suc (length w)) σ e rest h v q, judged-finds S plain t e h v q)

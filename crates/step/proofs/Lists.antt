@@ -116,6 +116,21 @@ module _ {A : Type 0} (p : A → Bool) where
   passes-kept (y ∷ l) x (inl i) t = pass-step (p y) x y (keep p l) refl t (inl i)
   passes-kept (y ∷ l) x (inr m) t = pass-step (p y) x y (keep p l) refl t (inr (passes-kept l x m t))
 
+  -- The first that passes is an element that passes, and there is none only where no element passes.
+  head-step : (k : List A) (x : A) → headOf k ≡ some x → Among x k
+  head-step [] x e = let z : _≡_ {A = ℕ} 0 1 = cc in absurd (omega arith)
+  head-step (y ∷ k) x e = inl (cc)
+
+  head-none : (k : List A) → headOf k ≡ none → (x : A) → Among x k → ⊥
+  head-none [] e x a = a
+  head-none (y ∷ k) e x a = let z : _≡_ {A = ℕ} 0 1 = cc in omega arith
+
+  pub first-passes : (l : List A) (x : A) → first p l ≡ some x → Among x l × (p x ≡ true)
+  first-passes l x e = kept-passes l x (head-step (keep p l) x (sym (first-keep l) ∙ e))
+
+  pub none-passes : (l : List A) → first p l ≡ none → (x : A) → Among x l → p x ≡ true → ⊥
+  none-passes l e x a t = head-none (keep p l) (sym (first-keep l) ∙ e) x (passes-kept l x a t)
+
   -- The numbers of the elements that pass are just the places of elements that pass.
   module _ (d : A) where
     number-step : (b : Bool) (x : A) (l : List A) (i j : ℕ) → p x ≡ b
