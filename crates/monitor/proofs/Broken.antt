@@ -1,12 +1,11 @@
 -- The triples that an event breaks, by the published definition and by the calls that the monitor holds. Assumes nothing.
 use mathlib.Core.Path.{_≡_, refl, sym, _∙_, ap, subst}
-use mathlib.Core.Logic.{_⊎_, inl, inr, _↔_}
-use mathlib.Core.Bool.{Bool, true, false, not, cond, _&&_, false≢true}
+use mathlib.Core.Logic.{_↔_}
+use mathlib.Core.Bool.{Bool, true, false, cond}
 use mathlib.Core.Option.{Option, none, some}
 use mathlib.Core.List.{List, [], _∷_, _++_, append-assoc}
-use Prim.Native.Nat.{ℕ, zero, suc, _+_, _≤_, _<_}
+use Prim.Native.Nat.{ℕ, zero, suc, _≤_, _<_}
 use native.Mathlib.Omega.{arith}
-use lib.Dec.{eqb}
 use lib.ListN.{length}
 use borrow.Author.Tests.{eqb-true, eqb-false, eq-eqb, not-true}
 use Rattle.condition.specs.Meaning.{environment}
@@ -16,15 +15,15 @@ use Rattle.sheet.specs.Reading.{isBad}
 use Rattle.sheet.specs.Log.{Event}
 use Rattle.sheet.proofs.Tests.{and-iff, eqb-iff}
 use Rattle.sheet.proofs.Tables.{and-both}
-use Rattle.step.specs.Lists.{first, keep, least}
+use Rattle.step.specs.Lists.{first, keep}
 use Rattle.step.specs.Meets.{meets}
-use Rattle.step.specs.Moves.{Configuration, seen}
+use Rattle.step.specs.Moves.{Configuration}
 use Rattle.step.specs.Calls.{isEntry}
-use Rattle.step.proofs.Lists.{Among, kept-passes, passes-kept, number-passes, passes-number, least-none, least-some}
+use Rattle.step.proofs.Lists.{none-some, Among, kept-passes, passes-kept, number-passes, passes-number, least-none, least-some}
 use Rattle.monitor.specs.Monitor.{Armed, State, initial, tripleIn, arms, armedBy, fails, failing, ofNumber, refusal}
 use Rattle.monitor.specs.Published.{reached, Breaks}
 use Rattle.monitor.proofs.Traces.{opening, Opened, snoc-same}
-use Rattle.monitor.proofs.Calls.{Taken, holds, held-opened, opened-held, unit-held, free}
+use Rattle.monitor.proofs.Calls.{Taken, held-opened, opened-held, unit-held, free}
 
 -- What is needed of a sheet: it does not start in a bad state; a precondition sees the event's values only, a postcondition these and the kept ones.
 pub record Plain (S : Sheet) : Type 0 where
@@ -58,7 +57,7 @@ one : (n : ℕ) → n ≤ 1 → (n ≡ 0 → ⊥) → n ≡ 1
 one zero h k = absurd (k refl)
 one (suc n) h k = omega arith
 
-abbrev noTriple : Triple
+abbrev pub noTriple : Triple
 noTriple = record { state = 0; unit = 0; precondition = 0; postcondition = 0 }
 
 module _ (S : Sheet) (plain : Plain S) where
@@ -89,9 +88,10 @@ module _ (S : Sheet) (plain : Plain S) where
         let o : Opened S (e .number) (initial S) w a = record { w₁ = b .w₁; entry = b .entry; w₂ = b .w₂; parts = p; kind = b .isEntry; number = n; apart = rw n at (b .apart); call = refl } in
         let f = opened-held S t (e .number) a o in
         let m = arms-armed (reached S (b .w₁)) (b .entry) i (record { there = b .there; inState = b .inState; ofUnit = b .ofUnit; precondition = b .precondition }) in
-        let g : meets (S .common) (tripleIn S i .postcondition) (environment (e .values) [] (b .entry .values)) ≡ false = rw q (b .postcondition) in
-        ( rw q (b .isExit),
-          (a, f, passes-kept (fails S (σ .configuration) e (a .call)) (a .armed) i m (rw (plain .postcondition i (b .there) (e .values) (σ .configuration .variables) (b .entry .values), g))))
+        let g : meets (S .common) (tripleIn S i .postcondition) (environment (e .values) [] (b .entry .values)) ≡ false = rw q (b .postcondition) in (
+          rw q (b .isExit),
+          (a, f, passes-kept (fails S (σ .configuration) e (a .call)) (a .armed) i m (rw (plain .postcondition i (b .there) (e .values) (σ .configuration .variables) (b .entry .values), g))),
+        )
 
     pub closes-breaks : Closes S σ e i → Breaks S (w ++ e ∷ []) i
     unfolding fails
@@ -129,8 +129,8 @@ module _ (S : Sheet) (plain : Plain S) where
     closed : (o : Option Armed) → e .kind ≡ 1 → first (ofNumber (e .number)) (σ .calls) ≡ o → Lowest S (w ++ e ∷ []) (failing S (σ .configuration) e o)
     closed none x f =
         record {
-          unbroken = λ _ i b. let (a, g, m) = breaks-closes t e h i b .1 in let z : _≡_ {A = ℕ} 0 1 = cc in omega arith;
-          broken = λ i q. let z : _≡_ {A = ℕ} 0 1 = cc in absurd (omega arith);
+          unbroken = λ _ i b. let (a, g, m) = breaks-closes t e h i b .1 in none-some (sym f ∙ g);
+          broken = λ i q. absurd (none-some q);
         }
     closed (some a) x f =
         let l = keep (fails S (σ .configuration) e (a .call)) (a .armed) in
@@ -148,7 +148,7 @@ module _ (S : Sheet) (plain : Plain S) where
 
     lowest-step : (b : Bool) → isEntry e ≡ b → Lowest S (w ++ e ∷ []) (cond b none (failing S (σ .configuration) e (first (ofNumber (e .number)) (σ .calls))))
     lowest-step true x =
-        record { unbroken = λ _ i. entry-breaks t e h i (eqb-true (e .kind) 0 x); broken = λ i q. let z : _≡_ {A = ℕ} 0 1 = cc in absurd (omega arith) }
+        record { unbroken = λ _ i. entry-breaks t e h i (eqb-true (e .kind) 0 x); broken = λ i q. absurd (none-some q) }
     lowest-step false x =
         let y = eqb-false (e .kind) 0 x in
         let k = free S σ e h .kind in

@@ -4,11 +4,11 @@ use mathlib.Core.Logic.{_⊎_, inl, inr, _↔_}
 use mathlib.Core.Bool.{Bool, true, false, not, cond, _&&_, false≢true}
 use mathlib.Core.Option.{Option, none, some}
 use mathlib.Core.List.{List, [], _∷_, _++_, map, append-nil}
-use Prim.Native.Nat.{ℕ, zero, suc, _+_, _≤_}
+use Prim.Native.Nat.{ℕ, _≤_}
 use native.Mathlib.Omega.{arith}
-use lib.Dec.{leb, ltb, eqb}
+use lib.Dec.{eqb}
 use lib.ListN.{length, length-append}
-use borrow.Author.Tests.{eqb-true, eqb-false, eq-eqb, ne-eqb, leb-true, not-true, not-false}
+use borrow.Author.Tests.{eqb-true, eqb-false, eq-eqb, ne-eqb, leb-true, not-false}
 use Rattle.sheet.specs.Parts.{Sheet}
 use Rattle.sheet.specs.Table.{every}
 use Rattle.sheet.specs.Log.{Event}
@@ -17,11 +17,11 @@ use Rattle.sheet.proofs.Tables.{and-parts}
 use Rattle.step.specs.declared.Verdict.{Verdict}
 use Rattle.step.specs.Lists.{first, keep, any}
 use Rattle.step.specs.Moves.{Configuration}
-use Rattle.step.specs.Calls.{Call, isEntry, isExit, openNumber, openFor, refusals, lowest}
-use Rattle.step.proofs.Lists.{headOf, first-keep, keep-append, keep-none, keep-again, keep-without, any-keep, any-map}
+use Rattle.step.specs.Calls.{isEntry, isExit, openNumber, openFor, refusals, lowest}
+use Rattle.step.proofs.Lists.{none-some, headOf, first-keep, keep-append, keep-none, keep-again, keep-without, any-keep, any-map}
 use Rattle.monitor.specs.Monitor.{Armed, State, initial, fresh, ofNumber, entered, exited, isJudged, refusal, offer}
 use Rattle.monitor.specs.Published.{shift, reached}
-use Rattle.monitor.proofs.Traces.{stepped, opening, next, callOf, another, Opened, shift-snoc, call-snoc, opened-call, call-opened}
+use Rattle.monitor.proofs.Traces.{opening, next, callOf, another, Opened, shift-snoc, call-snoc, opened-call, call-opened}
 
 -- The state is reached from the fresh one by offering the events of the trace in order, each of them taken. (None had a verdict before an offer: `unjudged`.)
 pub data Taken (S : Sheet) : List Event → State → Type 0 where
@@ -133,11 +133,19 @@ module _ (S : Sheet) where
     held-opened a h = either (call-opened S n (initial S) none w a (sym held ∙ h))
       where
         either : ((none ≡ some a) × (every (another n) w ≡ true)) ⊎ Opened S n (initial S) w a → Opened S n (initial S) w a
-        either (inl p) = let q = p .0 in let z : _≡_ {A = ℕ} 0 1 = cc in absurd (omega arith)
+        either (inl p) = absurd (none-some (p .0))
         either (inr r) = r
 
     pub opened-held : (a : Armed) → Opened S n (initial S) w a → first (ofNumber n) (σ .calls) ≡ some a
     opened-held a h = held ∙ opened-call S n (initial S) none w a h
+
+    -- so there is none just where the trace leaves none open
+    pub held-none : first (ofNumber n) (σ .calls) ≡ none ↔ ((a : Armed) → Opened S n (initial S) w a → ⊥)
+    held-none = (λ q a h. none-some (sym q ∙ opened-held a h), λ k. decide (first (ofNumber n) (σ .calls)) refl k)
+      where
+        decide : (o : Option Armed) → first (ofNumber n) (σ .calls) ≡ o → ((a : Armed) → Opened S n (initial S) w a → ⊥) → o ≡ none
+        decide none q k = refl
+        decide (some a) q k = absurd (k a (held-opened a q))
 
     pub different : length (keep (ofNumber n) (σ .calls)) ≤ 1
     different = rw (holds t .calls n) (short (callOf S n (initial S) none w))

@@ -1,11 +1,10 @@
 -- The verdict at an event, and the counterexamples among the prefixes of a trace whose events are taken. Assumes nothing.
 use mathlib.Core.Path.{_≡_, refl, sym, _∙_, ap, subst}
-use mathlib.Core.Logic.{_⊎_, inl, inr, _↔_}
+use mathlib.Core.Logic.{_⊎_, inl, inr}
 use mathlib.Core.Bool.{Bool, true, false, cond, false≢true}
 use mathlib.Core.Option.{Option, none, some}
 use mathlib.Core.List.{List, [], _∷_, _++_, append-nil}
-use Prim.Native.Nat.{ℕ, zero, suc, _+_}
-use native.Mathlib.Omega.{arith}
+use Prim.Native.Nat.{ℕ, _+_}
 use lib.ListN.{length, length-append}
 use Rattle.sheet.specs.Parts.{Sheet}
 use Rattle.sheet.specs.Reading.{isBad}
@@ -14,9 +13,10 @@ use Rattle.step.specs.declared.Verdict.{Verdict}
 use Rattle.step.specs.Lists.{first}
 use Rattle.step.specs.Calls.{isEntry}
 use Rattle.step.specs.Verdicts.{badState, verdict, stateIn, tripleIn}
+use Rattle.step.proofs.Lists.{none-some}
 use Rattle.step.proofs.Causes.{verdict-none, verdict-some}
 use Rattle.monitor.specs.Monitor.{State, initial, fresh, failing, ofNumber, entered, exited, refusal, offer}
-use Rattle.monitor.specs.Published.{shift, reached, ReachesBad, Breaks, Counterexample}
+use Rattle.monitor.specs.Published.{shift, reached, ReachesBad, Counterexample}
 use Rattle.monitor.proofs.Traces.{stepped, shift-snoc, not-snoc, empty-prefix, prefix-snoc}
 use Rattle.monitor.proofs.Calls.{Taken, begun, more, offer-taken, holds, unjudged}
 use Rattle.monitor.proofs.Broken.{Plain, brokenAt, Lowest, lowest-broken}
@@ -32,9 +32,6 @@ pub record Finds (S : Sheet) (w : List Event) (v : Verdict) : Type 0 where
   pub position : v .position ≡ length w
   pub state : stateIn (v .cause) ≡ badState (S .common) (reached S w .main)
   pub triple : Lowest S w (tripleIn (v .cause))
-
-pub clear-prefix : (S : Sheet) (u v : List Event) → Clear S (u ++ v) → Counterexample S u → ⊥
-clear-prefix S u v h = h u v refl
 
 module _ (S : Sheet) where
   verdict-step : (σ : State) (e : Event) (b : Bool)
@@ -55,7 +52,11 @@ module _ (S : Sheet) where
 
 module _ (S : Sheet) (plain : Plain S) where
   module _ {w : List Event} {σ : State} (t : Taken S w σ) (e : Event) (h : refusal S σ e ≡ 0) where
-    -- At an event that is taken: a verdict is found if, and only if, the trace up to it is a counterexample.
+    -- The verdict at an event that is taken: of the state that the trace reaches and the lowest triple that it breaks.
+    pub event-verdict : (l : Option ℕ) × (offer S σ e .state .verdict ≡ verdict (S .common) (length w + 1) (reached S (w ++ e ∷ []) .main) l) × Lowest S (w ++ e ∷ []) l
+    event-verdict = (brokenAt S σ e, verdict-at S t e h, lowest-broken S plain t e h)
+
+    -- A verdict is found if, and only if, the trace up to it is a counterexample.
     pub judged-finds : (v : Verdict) → offer S σ e .state .verdict ≡ some v → Finds S (w ++ e ∷ []) v
     judged-finds v q =
         let (p, s, r, c) = verdict-some (S .common) (length w + 1) (reached S (w ++ e ∷ []) .main) (brokenAt S σ e) v (sym (verdict-at S t e h) ∙ q) in
@@ -93,7 +94,7 @@ module _ (S : Sheet) (plain : Plain S) where
 
   pub taken-finds : {w : List Event} {σ : State} → Taken S w σ → (v : Verdict) → σ .verdict ≡ some v → Finds S w v
   unfolding fresh
-  taken-finds begun v q = let z : _≡_ {A = ℕ} 0 1 = cc in absurd (omega arith)
+  taken-finds begun v q = absurd (none-some q)
   taken-finds (more t e h) v q = judged-finds t e h v q
 
   pub clear-unjudged : {w : List Event} {σ : State} → Taken S w σ → Clear S w → σ .verdict ≡ none

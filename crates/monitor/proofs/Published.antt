@@ -1,16 +1,15 @@
 -- A run's verdict is the published one: definitions 3 and 5 of source document 003, on the trace of the events that are taken. Assumes nothing.
 use mathlib.Core.Path.{_≡_, refl, sym, _∙_, ap, subst}
-use mathlib.Core.Logic.{_⊎_, inl, inr, _↔_}
-use mathlib.Core.Bool.{Bool, true, false}
+use mathlib.Core.Logic.{_↔_}
 use mathlib.Core.Option.{Option, none, some}
 use mathlib.Core.List.{List, [], _∷_, _++_, append-nil, append-assoc}
-use Prim.Native.Nat.{ℕ, zero, suc, _+_, _≤_}
+use Prim.Native.Nat.{ℕ, zero, suc, _+_}
 use native.Mathlib.Omega.{arith}
 use lib.ListN.{length, length-append}
 use Rattle.sheet.specs.Parts.{Sheet}
 use Rattle.sheet.specs.Log.{Event}
 use Rattle.step.specs.declared.Verdict.{Verdict}
-use Rattle.step.specs.Verdicts.{stateIn, tripleIn}
+use Rattle.step.specs.Verdicts.{tripleIn}
 use Rattle.step.proofs.Causes.{verdict-same}
 use Rattle.monitor.specs.Monitor.{State, fresh, refusal, offer, Ran, violated, clean, refusedAt, runFrom, run}
 use Rattle.monitor.specs.Published.{reached, Counterexample}

@@ -1,5 +1,5 @@
 -- The published definition on the sheets that reading accepts. Assumes nothing.
-use mathlib.Core.Path.{_≡_, refl, sym, _∙_, ap}
+use mathlib.Core.Path.{_≡_, refl, _∙_}
 use mathlib.Core.Bool.{Bool, true, false, _&&_, false≢true}
 use mathlib.Core.Option.{Option, none, some}
 use mathlib.Core.List.{List, []}
@@ -10,15 +10,14 @@ use Rattle.condition.specs.Parse.{parseCondition}
 use Rattle.condition.specs.Meaning.{environment, holds}
 use Rattle.condition.specs.Answer.{sized, whether, conditionWhich}
 use Rattle.condition.proofs.Naming.{no-monitor-means, no-entry-means}
-use Rattle.sheet.specs.declared.Triple.{Triple}
-use Rattle.sheet.specs.Parts.{Common, Sheet}
+use Rattle.sheet.specs.Parts.{Common}
 use Rattle.sheet.specs.Decode.{commonOf, sheetOf}
 use Rattle.sheet.specs.Reading.{lentIn, conditionIn, namesEntry, namesMonitor, reading, lastOf, sheetLayout}
 use Rattle.sheet.specs.Log.{Event}
-use Rattle.sheet.proofs.Accepted.{Accepted, accepted, bounds, condition-formed, GoodTriple, sheet-triple}
+use Rattle.sheet.proofs.Accepted.{accepted, bounds, condition-formed, GoodTriple, sheet-triple}
 use Rattle.step.specs.Meets.{meets}
 use Rattle.monitor.specs.Monitor.{tripleIn}
-use Rattle.monitor.proofs.Broken.{Plain}
+use Rattle.monitor.proofs.Broken.{Plain, noTriple}
 use Rattle.monitor.proofs.Published.{Published, published}
 
 -- a condition that is formed and names nothing that p picks
@@ -40,9 +39,6 @@ module _ (C : Common) (i : ℕ) (formed : conditionWhich (λ _. true) (lentIn C)
   meets-no-entry h k′ =
       clear-of (sized 1 (conditionIn C i)) (parseCondition (lentIn C) (conditionIn C i)) (λ c. conditionNames c isAtEntry) (λ c. holds c (environment p m k)) (λ c. holds c (environment p m k′)) formed h
       (no-entry-means p m k k′)
-
-abbrev noTriple : Triple
-noTriple = record { state = 0; unit = 0; precondition = 0; postcondition = 0 }
 
 -- Of an accepted sheet all that the published definition needs is known.
 pub accepted-plain : (s : List ℕ) → reading sheetLayout s ≡ 0 → Plain (sheetOf s)

@@ -1,10 +1,10 @@
 -- Traces: prefixes, the configuration that they lead to, and the call that they leave open under a number. Assumes nothing.
-use mathlib.Core.Path.{_≡_, refl, sym, _∙_, ap, ap₂}
+use mathlib.Core.Path.{_≡_, refl, sym, _∙_, ap}
 use mathlib.Core.Logic.{_⊎_, inl, inr}
-use mathlib.Core.Bool.{Bool, true, false, not, cond, false≢true}
+use mathlib.Core.Bool.{Bool, true, false, not, cond}
 use mathlib.Core.Option.{Option, none, some}
 use mathlib.Core.List.{List, [], _∷_, _++_}
-use Prim.Native.Nat.{ℕ, zero, suc, _+_}
+use Prim.Native.Nat.{ℕ}
 use native.Mathlib.Omega.{arith}
 use lib.Dec.{eqb}
 use lib.ListN.{length, length-append}
@@ -12,9 +12,10 @@ use borrow.Author.Tests.{eqb-true, eq-eqb, not-true}
 use Rattle.sheet.specs.Parts.{Sheet}
 use Rattle.sheet.specs.Table.{every}
 use Rattle.sheet.specs.Log.{Event}
-use Rattle.sheet.proofs.Tables.{and-parts, and-both}
+use Rattle.sheet.proofs.Tables.{and-parts}
 use Rattle.step.specs.Moves.{Configuration, moved}
-use Rattle.step.specs.Calls.{Call, isEntry}
+use Rattle.step.specs.Calls.{isEntry}
+use Rattle.step.proofs.Lists.{none-some}
 use Rattle.monitor.specs.Monitor.{Armed, armedBy}
 use Rattle.monitor.specs.Published.{shift}
 
@@ -117,7 +118,7 @@ module _ (S : Sheet) where
         → cond b (cond c (some (opening S k e)) none) o ≡ some a → ((o ≡ some a) × (every (another n) (e ∷ w) ≡ true)) ⊎ Opened S n k (e ∷ w) a
     unfolding shift every
     here true true k o e w a p q h i = inr (record { w₁ = []; entry = e; w₂ = w; parts = refl; kind = eqb-true (e .kind) 0 q; number = eqb-true (e .number) n p; apart = h; call = cc })
-    here true false k o e w a p q h i = let z : _≡_ {A = ℕ} 0 1 = cc in absurd (omega arith)
+    here true false k o e w a p q h i = absurd (none-some i)
     here false c k o e w a p q h i = inl (i, rw p h)
 
     -- and what it leaves open was opened by it, or before it

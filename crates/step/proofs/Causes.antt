@@ -1,16 +1,16 @@
 -- Verdicts by their state and their triple. Assumes nothing.
-use mathlib.Core.Path.{_≡_, refl, sym, _∙_, ap}
+use mathlib.Core.Path.{_≡_, refl, sym, _∙_}
 use mathlib.Core.Logic.{_⊎_, inl, inr}
 use mathlib.Core.Bool.{Bool, true, false, cond}
 use mathlib.Core.Option.{Option, none, some}
 use Prim.Native.Nat.{ℕ}
-use native.Mathlib.Omega.{arith}
 use Rattle.sheet.specs.Parts.{Common}
 use Rattle.sheet.specs.Reading.{isBad}
 use Rattle.step.specs.declared.Cause.{Cause}
 use Rattle.step.specs.declared.Cause.the-variants as cause
 use Rattle.step.specs.declared.Verdict.{Verdict}
 use Rattle.step.specs.Verdicts.{causeOf, placed, badState, verdict, stateIn, tripleIn}
+use Rattle.step.proofs.Lists.{none-some}
 
 -- a cause is the one of its state and its triple
 pub cause-is : (c : Cause) → causeOf (stateIn c) (tripleIn c) ≡ some c
@@ -27,10 +27,10 @@ verdict-same u v p q r =
 
 module _ (C : Common) (position main : ℕ) where
   none-step : (b : Bool) (t : Option ℕ) → placed position (causeOf (cond b (some main) none) t) ≡ none → (b ≡ false) × (t ≡ none)
-  none-step true none e = let z : _≡_ {A = ℕ} 0 1 = cc in absurd (omega arith)
-  none-step true (some i) e = let z : _≡_ {A = ℕ} 0 1 = cc in absurd (omega arith)
+  none-step true none e = absurd (none-some (sym e))
+  none-step true (some i) e = absurd (none-some (sym e))
   none-step false none e = (refl, refl)
-  none-step false (some i) e = let z : _≡_ {A = ℕ} 0 1 = cc in absurd (omega arith)
+  none-step false (some i) e = absurd (none-some (sym e))
 
   pub verdict-none : (t : Option ℕ) → verdict C position main t ≡ none → (isBad (C .bad) main ≡ false) × (t ≡ none)
   unfolding verdict
@@ -43,7 +43,7 @@ module _ (C : Common) (position main : ℕ) where
       → (v .position ≡ position) × (stateIn (v .cause) ≡ cond b (some main) none) × (tripleIn (v .cause) ≡ t) × ((b ≡ true) ⊎ ((i : ℕ) × (t ≡ some i)))
   some-step true none v e = let (p, q) = placed-some (cause.BadState main) v e in (p, rw q, rw q, inl refl)
   some-step true (some i) v e = let (p, q) = placed-some (cause.Both main i) v e in (p, rw q, rw q, inl refl)
-  some-step false none v e = let z : _≡_ {A = ℕ} 0 1 = cc in absurd (omega arith)
+  some-step false none v e = absurd (none-some e)
   some-step false (some i) v e = let (p, q) = placed-some (cause.Triple i) v e in (p, rw q, rw q, inr (i, refl))
 
   pub verdict-some : (t : Option ℕ) (v : Verdict) → verdict C position main t ≡ some v

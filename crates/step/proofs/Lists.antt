@@ -1,7 +1,7 @@
 -- Laws of `first`, `keep`, `any`, `numbers` and `least`, for any test. Assumes nothing.
 use mathlib.Core.Path.{_≡_, refl, sym, _∙_, ap}
 use mathlib.Core.Logic.{_⊎_, inl, inr}
-use mathlib.Core.Bool.{Bool, true, false, not, cond, false≢true}
+use mathlib.Core.Bool.{Bool, true, false, cond, false≢true}
 use mathlib.Core.Option.{Option, none, some}
 use mathlib.Core.List.{List, [], _∷_, _++_, map}
 use Prim.Native.Nat.{ℕ, zero, suc, _+_, _≤_, _<_, min}
@@ -11,6 +11,9 @@ use lib.Dec.{leb}
 use lib.ListN.{length, getD}
 use borrow.Author.Tests.{leb-true, leb-false}
 use Rattle.step.specs.Lists.{first, keep, any, numbers, lesser, least}
+
+pub none-some : {A : Type 0} {x : A} → none ≡ some x → ⊥
+none-some e = let z : _≡_ {A = ℕ} 0 1 = cc in omega arith
 
 -- to be one of a list's elements
 abbrev pub Among : {A : Type 0} → A → List A → Type 0
@@ -118,12 +121,12 @@ module _ {A : Type 0} (p : A → Bool) where
 
   -- The first that passes is an element that passes, and there is none only where no element passes.
   head-step : (k : List A) (x : A) → headOf k ≡ some x → Among x k
-  head-step [] x e = let z : _≡_ {A = ℕ} 0 1 = cc in absurd (omega arith)
+  head-step [] x e = absurd (none-some e)
   head-step (y ∷ k) x e = inl (cc)
 
   head-none : (k : List A) → headOf k ≡ none → (x : A) → Among x k → ⊥
   head-none [] e x a = a
-  head-none (y ∷ k) e x a = let z : _≡_ {A = ℕ} 0 1 = cc in omega arith
+  head-none (y ∷ k) e x a = none-some (sym e)
 
   pub first-passes : (l : List A) (x : A) → first p l ≡ some x → Among x l × (p x ≡ true)
   first-passes l x e = kept-passes l x (head-step (keep p l) x (sym (first-keep l) ∙ e))
@@ -159,8 +162,8 @@ module _ {A : Type 0} (p : A → Bool) where
 
 -- The least of some numbers is one of them, and none is below it; there is none only of no numbers.
 never-none : (n : ℕ) (o : Option ℕ) → lesser n o ≡ none → ⊥
-never-none n none e = let z : _≡_ {A = ℕ} 0 1 = cc in omega arith
-never-none n (some m) e = let z : _≡_ {A = ℕ} 0 1 = cc in omega arith
+never-none n none e = none-some (sym e)
+never-none n (some m) e = none-some (sym e)
 
 pub least-none : (l : List ℕ) → least l ≡ none → (j : ℕ) → Among j l → ⊥
 unfolding least
@@ -185,5 +188,5 @@ least-step n i l (some m) e h q = smaller (leb n m) n m i l refl (cc) (h m e)
 
 pub least-some : (l : List ℕ) (i : ℕ) → least l ≡ some i → Among i l × ((j : ℕ) → Among j l → i ≤ j)
 unfolding least
-least-some [] i e = let z : _≡_ {A = ℕ} 0 1 = cc in absurd (omega arith)
+least-some [] i e = absurd (none-some e)
 least-some (n ∷ l) i e = least-step n i l (least l) refl (least-some l) e
