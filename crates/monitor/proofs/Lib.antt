@@ -4,5 +4,5 @@ pub mod Calls
 pub mod Broken
 pub mod Found
 pub mod Published
-pub mod Read
+pub mod Acceptance
 pub mod Exclusive
