@@ -1,2 +1,9 @@
--- The laws of the monitor's definitions.
+-- The monitor against the published definition, and document 01's sample runs.
+pub mod Traces
+pub mod Calls
+pub mod Broken
+pub mod Found
+pub mod Published
+pub mod Acceptance
+pub mod Exclusive
 pub mod Rows

@@ -1,3 +1,5 @@
--- The laws that the functions' proofs cite.
+-- The laws that the functions' proofs and the engines cite.
+pub mod Lists
+pub mod Causes
 pub mod Searching
 pub mod Refusing
