@@ -1,3 +1,4 @@
 -- The laws that the functions' proofs cite.
 pub mod Searching
 pub mod Refusing
+pub mod Bridge
