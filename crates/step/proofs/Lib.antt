@@ -3,3 +3,4 @@ pub mod Lists
 pub mod Causes
 pub mod Searching
 pub mod Refusing
+pub mod Bridge
