@@ -24,7 +24,7 @@ use Rattle.sheet.specs.Decode.{textForm, transitionForm, tripleForm, pai
 use Rattle.sheet.specs.Reading.{together, transitionRanged, tripleRanged, templateRanged, countsOf, countsHold, Layout, Use, guard, precondition, postcondition, between, lentIn, conditionIn, usedWell, whole, counted, tabled, formed, ranged, roled, transitionsOf, lastOf, reading, unless, sheetLayout, networkLayout}
 use Rattle.sheet.specs.Walk.{pairedRanged, Finds, conditionLengths, actionLengths, tablesOf, namesAt, guardSuits, preconditionSuits, tripleSuits, pairSuits, pairedSuits, templateSuits}
 use Rattle.sheet.proofs.Tests.{and-iff, leb-iff}
-use Rattle.sheet.proofs.Tables.{and-assoc, and-true, length-records, length-starts, table-at, every-same, every-map}
+use Rattle.sheet.proofs.Tables.{and-assoc, and-true, length-records, indexed, every-same, every-map}
 
 -- the cascade, each step under those before it
 module _ {T R : Type 0} (F : Layout T R) (s : List ℕ) where
@@ -82,13 +82,6 @@ tabled-found F s t e =
     ∙ ap (λ (b : Bool). conditionLengths s && b) (and-assoc (actionLengths s) pairs ends)
 
 -- a condition by its number, through the index
-fit-at : (n : ℕ) (l : List ℕ) (i : ℕ) → i < length l → length l ≤ n → getD (fit n 0 l) i 0 ≡ getD l i 0
-unfolding fit
-fit-at n [] i h k = absurd (omega arith)
-fit-at zero (x ∷ l) i h k = absurd (omega arith)
-fit-at (suc n) (x ∷ l) zero h k = refl
-fit-at (suc n) (x ∷ l) (suc i) h k = fit-at n l i (omega arith) (omega arith)
-
 names-nothing : (p : Variable → Bool) (L : Lent) → conditionWhich (λ c. conditionNames c p) L (0 ∷ []) ≡ false
 unfolding conditionWhich parseCondition conditionFrom conditionOperator conditionNames
 names-nothing p L = refl
@@ -99,8 +92,7 @@ names-number p s n a L i h = go (ltb i n) refl
     go : (b : Bool) → ltb i n ≡ b → (b && conditionWhich (λ c. conditionNames c p) L (textForm .value (drop (getD (fit 65 0 (starts textForm n s a)) i 0) s))) ≡ conditionWhich (λ c. conditionNames c p) L (getD (table textForm n s a) i (0 ∷ []))
     go true e =
         let less = ltb-true i n e in
-        let long = length-starts textForm n s a in
-        rw (fit-at 65 (starts textForm n s a) i (omega arith) (omega arith)) (ap (conditionWhich (λ c. conditionNames c p) L) (table-at textForm n s a i (0 ∷ []) less))
+        ap (conditionWhich (λ c. conditionNames c p) L) (indexed textForm 65 n s a i (0 ∷ []) less h)
     go false e =
         let long = length-records textForm n (drop a s) in
         let past = ltb-false i n e in

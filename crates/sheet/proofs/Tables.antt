@@ -7,7 +7,7 @@ use native.Mathlib.Omega.{arith}
 use native.Mathlib.Nat.{suc-mul, zero-mul, le-of-suc-le-suc}
 use lib.ListN.{length, drop, getD}
 use lib.Seq.{drop-drop}
-use Rattle.sheet.specs.Table.{Form, records, extent, table, after, starts, every}
+use Rattle.sheet.specs.Table.{Form, records, extent, table, after, starts, fit, every}
 
 -- A conjunction that holds, and its parts.
 pub and-parts : (a b : Bool) → (a && b) ≡ true → (a ≡ true) × (b ≡ true)
@@ -23,6 +23,14 @@ and-assoc false b c = refl
 pub and-true : (a : Bool) → (a && true) ≡ a
 and-true true = refl
 and-true false = refl
+
+-- an element of a list, with room behind it
+fit-at : (w : ℕ) (l : List ℕ) (i : ℕ) → i < length l → length l ≤ w → getD (fit w 0 l) i 0 ≡ getD l i 0
+unfolding fit
+fit-at w [] i h k = absurd (omega arith)
+fit-at zero (x ∷ l) i h k = absurd (omega arith)
+fit-at (suc w) (x ∷ l) zero h k = refl
+fit-at (suc w) (x ∷ l) (suc i) h k = fit-at w l i (omega arith) (omega arith)
 
 -- How long a table is; its first record and the rest.
 module _ {A : Type 0} (F : Form A) where
@@ -54,6 +62,12 @@ module _ {A : Type 0} (F : Form A) where
   table-at zero s a i d h = absurd (omega arith)
   table-at (suc n) s a zero d h = refl
   table-at (suc n) s a (suc i) d h = rw drop-drop (table-at n s (a + F .size (drop a s)) i d (le-of-suc-le-suc h))
+
+  -- and through an index with room for w
+  pub indexed : (w n : ℕ) (s : List ℕ) (a i : ℕ) (d : A) → i < n → n ≤ w → F .value (drop (getD (fit w 0 (starts F n s a)) i 0) s) ≡ getD (table F n s a) i d
+  indexed w n s a i d h few =
+      let long = length-starts n s a in
+      rw (fit-at w (starts F n s a) i (omega arith) (omega arith)) (table-at n s a i d h)
 
 -- Tests on all records, one more of them tested: the turn and the end of a loop that goes up.
 module _ {A : Type 0} (ok : Bool) (p : A → Bool) (F : Form A) where

@@ -21,7 +21,7 @@ use Rattle.sheet.specs.Parts.{Paired}
 use Rattle.sheet.specs.Decode.{textForm, transitionOf, pairedForm, conditionsIn, actionsIn, transitionsIn, conditionsAt, actionsAt, transitionsAt, commonOf}
 use Rattle.sheet.specs.Reading.{Layout, lentIn, conditionIn, namesEntry, namesMonitor, transitionsOf, lastOf, sheetLayout, networkLayout}
 use Rattle.sheet.specs.Log.{Event}
-use Rattle.sheet.proofs.Tables.{and-assoc, length-records, length-starts, table-at, same-records}
+use Rattle.sheet.proofs.Tables.{and-assoc, length-records, indexed, same-records}
 use Rattle.sheet.proofs.Accepted.{Accepted, GoodTransition, bounds, condition-formed, action-formed, action-entry, sheet-transition, network-transition}
 use Rattle.step.specs.declared.Key.{Key}
 use Rattle.step.specs.declared.Found.{Found}
@@ -37,19 +37,6 @@ conditionPlaces s = fit 65 0 (starts textForm (conditionsIn s) s (conditionsAt s
 
 abbrev pub actionPlaces : List ℕ → List ℕ
 actionPlaces s = fit 65 0 (starts textForm (actionsIn s) s (actionsAt s))
-
--- A text by its number, through an index.
-fit-at : (n : ℕ) (l : List ℕ) (i : ℕ) → i < length l → length l ≤ n → getD (fit n 0 l) i 0 ≡ getD l i 0
-unfolding fit
-fit-at n [] i h k = absurd (omega arith)
-fit-at zero (x ∷ l) i h k = absurd (omega arith)
-fit-at (suc n) (x ∷ l) zero h k = refl
-fit-at (suc n) (x ∷ l) (suc i) h k = fit-at n l i (omega arith) (omega arith)
-
-indexed : (n : ℕ) (s : List ℕ) (a i : ℕ) (d : List ℕ) → i < n → n ≤ 65 → textForm .value (drop (getD (fit 65 0 (starts textForm n s a)) i 0) s) ≡ getD (table textForm n s a) i d
-indexed n s a i d h few =
-    let long = length-starts textForm n s a in
-    rw (fit-at 65 (starts textForm n s a) i (omega arith) (omega arith)) (table-at textForm n s a i d h)
 
 -- A text of the right size that parses to a tree.
 record Reads (L : Lent) (t : List ℕ) (c : Condition) : Type 0 where
@@ -115,14 +102,14 @@ module _ {T R : Type 0} {F : Layout T R} {s : List ℕ} (a : Accepted F s) (i : 
   text-there few h =
       let long = length-records textForm (conditionsIn s) (drop (conditionsAt s) s) in
       let most = bounds a .conditions in
-      indexed (conditionsIn s) s (conditionsAt s) i (0 ∷ []) (omega arith) (omega arith)
+      indexed textForm 65 (conditionsIn s) s (conditionsAt s) i (0 ∷ []) (omega arith) (omega arith)
 
   pub action-there : F .actions ≤ 65 → i < length (commonOf s .actions) → textForm .value (drop (getD (actionPlaces s) i 0) s) ≡ getD (commonOf s .actions) i []
   unfolding commonOf
   action-there few h =
       let long = length-records textForm (actionsIn s) (drop (actionsAt s) s) in
       let most = bounds a .actions in
-      indexed (actionsIn s) s (actionsAt s) i [] (omega arith) (omega arith)
+      indexed textForm 65 (actionsIn s) s (actionsAt s) i [] (omega arith) (omega arith)
 
 -- A condition of accepted bytes: what the operation answers is what Meets says, for a transition's condition, a precondition and a postcondition.
 module _ {T R : Type 0} {F : Layout T R} {s : List ℕ} (a : Accepted F s) (few : F .conditions ≤ 65) (i : ℕ) (h : i < length (commonOf s .conditions)) where
