@@ -7,3 +7,4 @@ pub mod Published
 pub mod Acceptance
 pub mod Exclusive
 pub mod Rows
+pub mod Starting

@@ -1,3 +1,4 @@
 -- The monitor on a sheet, and the published definition of its verdicts.
 pub mod Monitor
 pub mod Published
+pub mod Padded

@@ -1,1 +1,98 @@
-// The engine on a sheet.
+// The engine on a sheet: its state.
+
+ghost use mathlib.Core.Path.{_≡_};
+ghost use Rattle.monitor.specs.Padded.{zeroState, pad, freshOf};
+ghost use Rattle.monitor.specs.Monitor.{fresh};
+ghost use Rattle.sheet.specs.Decode.{sheetOf};
+use sheet::Reading;
+use step::Call;
+use step::Verdict;
+
+// The triples armed for an open call: the first `count` of four numbers.
+pub struct Arms {
+    pub count: u8,
+    pub triples: [u8; 4],
+}
+
+// Whether there is a verdict.
+pub enum Outcome {
+    Open,
+    Judged(Verdict),
+}
+
+// A state of the monitor. The first `opened` calls are open, with what is armed for each beside it.
+pub struct WatchState {
+    pub main: u8,
+    pub variables: [u32; WatchState::VARIABLES],
+    pub opened: u8,
+    pub calls: [Call; WatchState::CALLS],
+    pub arms: [Arms; WatchState::CALLS],
+    pub position: u32,
+    pub outcome: Outcome,
+}
+
+// What making a fresh state answers: what reading the sheet answers, and the state.
+pub struct Fresh {
+    pub reading: Reading,
+    pub state: WatchState,
+}
+
+impl WatchState {
+    pub const CALLS: usize = 16;
+
+    pub const ARMED: usize = 4;
+
+    pub const VARIABLES: usize = 4;
+
+    pub const VALUES: usize = 8;
+
+    // The state all of whose fields are zero, with no verdict.
+    pub fn zero() -> WatchState
+        ensures { λ r. ⌜ r ≡ zeroState ⌝ }
+    {
+        WatchState {
+            main: 0,
+            variables: [0; 4],
+            opened: 0,
+            calls: [Call {
+                number: 0,
+                unit: 0,
+                kept: [0; 8],
+            }; 16],
+            arms: [Arms {
+                count: 0,
+                triples: [0; 4],
+            }; 16],
+            position: 0,
+            outcome: Outcome::Open,
+        }
+    }
+
+    // The state before the first event of a log: the start state, the initial values, no calls.
+    pub fn fresh(s: &[u8]) -> Fresh
+        ensures { λ r. ⌜ r ≡ freshOf (now (s .entry)) ⌝ }
+    {
+        match sheet::read_sheet(s) {
+            Reading::Accepted => Fresh {
+                reading: Reading::Accepted,
+                state: WatchState::started(s),
+            },
+            Reading::Refused(n) => Fresh {
+                reading: Reading::Refused(n),
+                state: WatchState::zero(),
+            },
+        }
+    }
+
+    // The state that the header and the initial values give.
+    fn started(s: &[u8]) -> WatchState
+        ensures { λ r. ⌜ r ≡ pad (fresh (sheetOf (now (s .entry)))) ⌝ }
+    {
+        let h = sheet::header_of(s);
+        let w = sheet::words_at(s, 14, h.monitors);
+        let mut state = WatchState::zero();
+        state.main = h.start;
+        state.variables = [w[0], w[1], w[2], w[3]];
+        state
+    }
+}

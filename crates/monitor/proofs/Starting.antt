@@ -1,0 +1,59 @@
+-- The fresh state, from the header and the words behind it. Assumes nothing.
+use mathlib.Core.Path.{_≡_, refl, sym, ap, _∙_}
+use mathlib.Core.Bool.{Bool, true, false, false≢true}
+use mathlib.Core.List.{List, [], _∷_}
+use Prim.Native.Nat.{ℕ, zero, suc}
+use lib.ListN.{getD}
+use Rattle.sheet.specs.declared.Header.{Header}
+use Rattle.sheet.specs.declared.Reading.{Reading}
+use Rattle.sheet.specs.declared.Reading.the-variants.{Accepted, Refused}
+use Rattle.sheet.specs.Table.{table, fit}
+use Rattle.sheet.specs.Decode.{wordForm, commonOf, sheetOf}
+use Rattle.sheet.specs.Reading.{reading, sheetLayout}
+use Rattle.sheet.specs.Answer.{headerOf, answer}
+use Rattle.monitor.specs.declared.WatchState.{WatchState}
+use Rattle.monitor.specs.declared.Fresh.{Fresh}
+use Rattle.monitor.specs.Monitor.{fresh}
+use Rattle.monitor.specs.Padded.{zeroState, pad, whenAccepted, freshOf}
+
+-- the first four of eight words
+abbrev four : List ℕ → List ℕ
+four w = getD w 0 0 ∷ getD w 1 0 ∷ getD w 2 0 ∷ getD w 3 0 ∷ []
+
+four-of-eight : (l : List ℕ) → four (fit 8 0 l) ≡ fit 4 0 l
+unfolding fit
+four-of-eight [] = refl
+four-of-eight (a ∷ []) = refl
+four-of-eight (a ∷ b ∷ []) = refl
+four-of-eight (a ∷ b ∷ c ∷ []) = refl
+four-of-eight (a ∷ b ∷ c ∷ d ∷ l) = refl
+
+pub started-found : (s : List ℕ) (h : Header) (w : List ℕ) (z : WatchState) → h ≡ headerOf s → w ≡ fit 8 0 (table wordForm (h .monitors) s 14) → z ≡ zeroState
+    → record { main = h .start; variables = four w; opened = z .opened; calls = z .calls; arms = z .arms; position = z .position; outcome = z .outcome } ≡ pad (fresh (sheetOf s))
+unfolding pad fresh sheetOf commonOf fit
+started-found s h w z e f g = rw (g, f, e, four-of-eight (table wordForm (headerOf s .monitors) s 14))
+
+-- what reading answers settles what is made
+abbrev made : Reading → WatchState → Fresh
+made r τ = record { reading = r; state = τ }
+
+abbrev isAccepted : Reading → Bool
+isAccepted Accepted = true
+isAccepted (Refused n) = false
+
+module _ (s : List ℕ) (r : Reading) (e : r ≡ answer (reading sheetLayout s)) (τ : WatchState) where
+  pub fresh-accepted : r ≡ Accepted → τ ≡ pad (fresh (sheetOf s)) → made Accepted τ ≡ freshOf s
+  unfolding freshOf
+  fresh-accepted h f = go (reading sheetLayout s) (sym e ∙ h)
+    where
+      go : (n : ℕ) → answer n ≡ Accepted → made Accepted τ ≡ made (answer n) (whenAccepted n (pad (fresh (sheetOf s))))
+      go zero k = rw f
+      go (suc n) k = absurd (false≢true (ap isAccepted k))
+
+  pub fresh-refused : (m : ℕ) → r ≡ Refused m → τ ≡ zeroState → made (Refused m) τ ≡ freshOf s
+  unfolding freshOf
+  fresh-refused m h f = go (reading sheetLayout s) (sym e ∙ h)
+    where
+      go : (n : ℕ) → answer n ≡ Refused m → made (Refused m) τ ≡ made (answer n) (whenAccepted n (pad (fresh (sheetOf s))))
+      go zero k = absurd (false≢true (sym (ap isAccepted k)))
+      go (suc n) k = rw (f, k)
