@@ -11,7 +11,7 @@ use step::Verdict;
 // The triples armed for an open call: the first `count` of four numbers.
 pub struct Arms {
     pub count: u8,
-    pub triples: [u8; 4],
+    pub triples: [u8; WatchState::ARMED],
 }
 
 // Whether there is a verdict.
@@ -52,17 +52,17 @@ impl WatchState {
     {
         WatchState {
             main: 0,
-            variables: [0; 4],
+            variables: [0; WatchState::VARIABLES],
             opened: 0,
             calls: [Call {
                 number: 0,
                 unit: 0,
-                kept: [0; 8],
-            }; 16],
+                kept: [0; WatchState::VALUES],
+            }; WatchState::CALLS],
             arms: [Arms {
                 count: 0,
-                triples: [0; 4],
-            }; 16],
+                triples: [0; WatchState::ARMED],
+            }; WatchState::CALLS],
             position: 0,
             outcome: Outcome::Open,
         }
