@@ -8,3 +8,4 @@ pub mod Acceptance
 pub mod Exclusive
 pub mod Rows
 pub mod Starting
+pub mod Soundness

@@ -2,3 +2,4 @@
 pub mod Monitor
 pub mod Published
 pub mod Padded
+pub mod Sound
