@@ -12,12 +12,8 @@ use Rattle.step.specs.declared.Call.{Call}
 use Rattle.step.specs.Lists.{any}
 use Rattle.step.specs.Calls.{lastPosition, refusalsFor, lowest, openNumber, openFor}
 use Rattle.step.specs.Walk.{placeOf, unpad, eventOf}
+use Rattle.step.proofs.Lists.{any-map}
 use Rattle.step.proofs.Searching.{any-place}
-
-any-map : {A B : Type 0} (p : B → Bool) (f : A → B) (l : List A) → any p (map f l) ≡ any (λ x. p (f x)) l
-unfolding any
-any-map p f [] = refl
-any-map p f (x ∷ l) = ap (cond (p (f x)) true) (any-map p f l)
 
 -- below the lesser of two is below both
 below-min : (k m n : ℕ) → (ltb k m && ltb k n) ≡ ltb k (min m n)
