@@ -1,15 +1,33 @@
 -- Which states are sound. Assumes nothing.
-use mathlib.Core.Path.{_≡_}
-use mathlib.Core.Bool.{true}
-use mathlib.Core.List.{List}
-use Prim.Native.Nat.{ℕ}
-use borrow.Author.Tests.{eq-eqb, lt-ltb}
+use mathlib.Core.Path.{_≡_, refl, sym, ap, _∙_}
+use mathlib.Core.Logic.{inl, inr}
+use mathlib.Core.Bool.{Bool, true, false, not, cond, _&&_, false≢true}
+use mathlib.Core.Option.{Option, none, some}
+use mathlib.Core.List.{List, [], _∷_, map}
+use Prim.Native.Nat.{ℕ, zero, suc, _+_, _≤_, _<_}
+use native.Mathlib.Omega.{arith}
+use borrow.Author.Tests.{eq-eqb, lt-ltb, le-leb}
+use lib.Dec.{eqb, ltb}
+use lib.ListN.{length, getD, length-set}
+use Rattle.condition.specs.Tree.{Assignment}
+use Rattle.condition.specs.Parse.{parseAction}
+use Rattle.condition.specs.Meaning.{Environment, performed, assigned}
+use Rattle.sheet.specs.declared.Transition.{Transition}
 use Rattle.sheet.specs.Table.{every}
-use Rattle.sheet.specs.Decode.{commonOf, sheetOf}
-use Rattle.sheet.specs.Reading.{sheetLayout}
-use Rattle.sheet.proofs.Accepted.{Accepted, bounds}
-use Rattle.monitor.specs.Monitor.{fresh}
-use Rattle.monitor.specs.Sound.{distinct, sound}
+use Rattle.sheet.specs.Parts.{Sheet}
+use Rattle.sheet.specs.Decode.{commonOf, sheetOf, transitionOf}
+use Rattle.sheet.specs.Reading.{isBad, lentIn, transitionsOf, sheetLayout}
+use Rattle.sheet.specs.Log.{Event}
+use Rattle.sheet.proofs.Accepted.{Accepted, bounds, sheet-transition}
+use Rattle.sheet.proofs.Tables.{and-parts, and-both}
+use Rattle.sheet.proofs.Tests.{and-iff, leb-iff, eqb-iff, not-iff}
+use Rattle.step.specs.Lists.{first, keep, any, least}
+use Rattle.step.specs.Meets.{acted, performedBy}
+use Rattle.step.specs.Moves.{Configuration, seen, enabled, after, moved}
+use Rattle.step.specs.Verdicts.{causeOf, placed, verdict}
+use Rattle.step.proofs.Lists.{Among, any-map, first-passes, kept-passes, least-some}
+use Rattle.monitor.specs.Monitor.{Armed, State, fresh, tripleIn, fails, failing, ofNumber, exited}
+use Rattle.monitor.specs.Sound.{distinct, rising, callSound, ifThere, verdictSound, sound}
 
 -- "A fresh state is defined for every accepted sheet": it is sound
 pub fresh-sound : {s : List ℕ} → Accepted sheetLayout s → sound (sheetOf s) (fresh (sheetOf s)) ≡ true
@@ -18,3 +36,130 @@ fresh-sound {s} a =
     let b = bounds a in
     let C = commonOf s in
     rw (lt-ltb (C .start) (C .states) (b .start), eq-eqb _ (C .monitors) (b .initial), b .startGood)
+
+-- What holds of all elements holds of one, and of those that are kept.
+every-among : {A : Type 0} (p : A → Bool) (l : List A) (x : A) → every p l ≡ true → Among x l → p x ≡ true
+unfolding every
+every-among p [] x h m = absurd m
+every-among p (y ∷ l) x h (inl e) = ap p e ∙ and-parts (p y) (every p l) h .0
+every-among p (y ∷ l) x h (inr m) = every-among p l x (and-parts (p y) (every p l) h .1) m
+
+module _ {A : Type 0} (q : A → Bool) where
+  every-keep : (p : A → Bool) (l : List A) → every p l ≡ true → every p (keep q l) ≡ true
+  unfolding every keep
+  every-keep p [] h = h
+  every-keep p (x ∷ l) h = go (q x) (and-parts (p x) (every p l) h .0) (every-keep p l (and-parts (p x) (every p l) h .1))
+    where
+      go : (b : Bool) → p x ≡ true → every p (keep q l) ≡ true → every p (cond b (x ∷ keep q l) (keep q l)) ≡ true
+      go true i j = and-both i j
+      go false i j = j
+
+  length-keep : (l : List A) → length (keep q l) ≤ length l
+  unfolding keep
+  length-keep [] = omega arith
+  length-keep (x ∷ l) = go (q x) (length-keep l)
+    where
+      go : (b : Bool) → length (keep q l) ≤ length l → length (cond b (x ∷ keep q l) (keep q l)) ≤ suc (length l)
+      go true h = omega arith
+      go false h = omega arith
+
+  any-fewer : (p : A → Bool) (l : List A) → any p l ≡ false → any p (keep q l) ≡ false
+  unfolding any keep
+  any-fewer p [] h = h
+  any-fewer p (x ∷ l) h = go (q x) (p x) refl h (any-fewer p l)
+    where
+      go : (b c : Bool) → p x ≡ c → cond c true (any p l) ≡ false → (any p l ≡ false → any p (keep q l) ≡ false) → any p (cond b (x ∷ keep q l) (keep q l)) ≡ false
+      go b true e k f = absurd (false≢true (sym k))
+      go true false e k f = rw e (f k)
+      go false false e k f = f k
+
+-- different numbers stay different
+distinct-keep : (q : Armed → Bool) (l : List Armed) → distinct (map (λ (a : Armed). a .call .number) l) ≡ true → distinct (map (λ (a : Armed). a .call .number) (keep q l)) ≡ true
+unfolding distinct keep
+distinct-keep q [] h = h
+distinct-keep q (x ∷ l) h =
+    let (i, j) = simp (and-iff, not-iff) at h in
+    let m = any-map (eqb (x .call .number)) (λ (a : Armed). a .call .number) in
+    go (q x) (m (keep q l) ∙ any-fewer q (λ (a : Armed). eqb (x .call .number) (a .call .number)) l (sym (m l) ∙ i)) (distinct-keep q l j)
+  where
+    go : (b : Bool) → any (eqb (x .call .number)) (map (λ (a : Armed). a .call .number) (keep q l)) ≡ false → distinct (map (λ (a : Armed). a .call .number) (keep q l)) ≡ true
+        → distinct (map (λ (a : Armed). a .call .number) (cond b (x ∷ keep q l) (keep q l))) ≡ true
+    go true i j = rw (i, j)
+    go false i j = j
+
+-- A transition leads to a state below Q, and there are as many variables as before.
+length-performed : (r : List Assignment) (E : Environment) → length (performed r E) ≡ length (E .monitors)
+unfolding performed assigned
+length-performed [] E = refl
+length-performed (a ∷ r) E = length-performed r (assigned a E) ∙ length-set (E .monitors) (a .target) _
+
+length-acted : (o : Option (List Assignment)) (E : Environment) → length (performedBy o E) ≡ length (E .monitors)
+length-acted none E = refl
+length-acted (some r) E = length-performed r E
+
+among-at : {A : Type 0} (d : A) (l : List A) (x : A) → Among x l → (i : ℕ) × (i < length l) × (getD l i d ≡ x)
+among-at d [] x m = absurd m
+among-at d (y ∷ l) x (inl e) = (0, omega arith, sym e)
+among-at d (y ∷ l) x (inr m) = let (i, h, e) = among-at d l x m in (suc i, omega arith, e)
+
+module _ {s : List ℕ} (a : Accepted sheetLayout s) (k : Configuration) (e : Event) where
+  pub moved-main : k .main < commonOf s .states → moved (commonOf s) (transitionsOf sheetLayout s) k e .main < commonOf s .states
+  unfolding moved
+  moved-main h = go (first (enabled (commonOf s) k e) (transitionsOf sheetLayout s)) refl
+    where
+      go : (o : Option Transition) → first (enabled (commonOf s) k e) (transitionsOf sheetLayout s) ≡ o → after (commonOf s) k e o .main < commonOf s .states
+      go none f = h
+      go (some t) f =
+          let (i, j, x) = among-at (transitionOf []) (transitionsOf sheetLayout s) t (first-passes (enabled (commonOf s) k e) (transitionsOf sheetLayout s) t f .0) in
+          let g = sheet-transition a i (transitionOf []) j in
+          rw x at (g .to)
+
+  pub moved-variables : length (moved (commonOf s) (transitionsOf sheetLayout s) k e .variables) ≡ length (k .variables)
+  unfolding moved acted
+  moved-variables = go (first (enabled (commonOf s) k e) (transitionsOf sheetLayout s))
+    where
+      go : (o : Option Transition) → length (after (commonOf s) k e o .variables) ≡ length (k .variables)
+      go none = refl
+      go (some t) = length-acted (parseAction (lentIn (commonOf s)) (getD (commonOf s .actions) (t .action) [])) (seen e k)
+
+-- The verdict that an event brings, from a triple that exists.
+verdict-sound : (S : Sheet) (main position : ℕ) (t : Option ℕ) → ifThere t (λ i. ltb i (length (S .triples))) ≡ true → verdictSound S main position (verdict (S .common) position main t) ≡ true
+unfolding verdict
+verdict-sound S main position t h = go (isBad (S .common .bad) main) refl t h
+  where
+    go : (b : Bool) → isBad (S .common .bad) main ≡ b → (o : Option ℕ) → ifThere o (λ i. ltb i (length (S .triples))) ≡ true
+        → verdictSound S main position (placed position (causeOf (cond b (some main) none) o)) ≡ true
+    go true e none k = rw (e, eq-eqb position position refl, eq-eqb main main refl)
+    go true e (some i) k = rw (e, k, eq-eqb position position refl, eq-eqb main main refl)
+    go false e none k = rw e
+    go false e (some i) k = rw (k, eq-eqb position position refl)
+
+-- the triple that fails is armed, so it exists
+failing-there : (S : Sheet) (k : Configuration) (e : Event) (l : List Armed) → every (callSound S) l ≡ true → ifThere (failing S k e (first (ofNumber (e .number)) l)) (λ i. ltb i (length (S .triples))) ≡ true
+unfolding callSound
+failing-there S k e l h = go (first (ofNumber (e .number)) l) refl
+  where
+    least-there : (a : Armed) → callSound S a ≡ true → (o : Option ℕ) → least (keep (fails S k e (a .call)) (a .armed)) ≡ o → ifThere o (λ i. ltb i (length (S .triples))) ≡ true
+    least-there a c none f = refl
+    least-there a c (some i) f =
+        let m = kept-passes (fails S k e (a .call)) (a .armed) i (least-some (keep (fails S k e (a .call)) (a .armed)) i f .0) .0 in
+        let c5 = simp and-iff at c .1 .1 .1 .1 .0 in
+        and-parts _ _ (every-among (λ i. ltb i (length (S .triples)) && eqb (tripleIn S i .unit) (a .call .unit)) (a .armed) i c5 m) .0
+
+    go : (o : Option Armed) → first (ofNumber (e .number)) l ≡ o → ifThere (failing S k e o) (λ i. ltb i (length (S .triples))) ≡ true
+    go none f = refl
+    go (some a) f = least-there a (every-among (callSound S) l a h (first-passes (ofNumber (e .number)) l a f .0)) (least (keep (fails S k e (a .call)) (a .armed))) refl
+
+-- An exit keeps a sound state sound.
+pub exited-sound : {s : List ℕ} → Accepted sheetLayout s → (σ : State) (e : Event) → sound (sheetOf s) σ ≡ true → sound (sheetOf s) (exited (sheetOf s) σ e) ≡ true
+unfolding sound exited sheetOf
+exited-sound {s} a σ e h =
+    let (m, (v, (c, (d, (k, w))))) = simp (and-iff, leb-iff, eqb-iff) at h in
+    let q : Armed → Bool = λ b. not (ofNumber (e .number) b) in
+    let few = length-keep q (σ .calls) in
+    and-both (lt-ltb _ _ (moved-main a (σ .configuration) e m))
+    (and-both (eq-eqb _ _ (moved-variables a (σ .configuration) e ∙ v))
+    (and-both (le-leb (length (keep q (σ .calls))) 16 (omega arith))
+    (and-both (distinct-keep q (σ .calls) d)
+    (and-both (every-keep q (callSound (sheetOf s)) (σ .calls) k)
+    (verdict-sound (sheetOf s) _ (σ .position + 1) _ (failing-there (sheetOf s) (σ .configuration) e (σ .calls) k))))))
