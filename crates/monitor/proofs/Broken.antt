@@ -60,15 +60,21 @@ one (suc n) h k = omega arith
 abbrev pub noTriple : Triple
 noTriple = record { state = 0; unit = 0; precondition = 0; postcondition = 0 }
 
+-- an armed triple exists, and passes the test
+pub armed-there : (S : Sheet) (k : Configuration) (e : Event) (i : ℕ) → Among i (armedBy S k e) → (i < length (S .triples)) × (arms S k e (tripleIn S i) ≡ true)
+unfolding armedBy
+armed-there S k e i a =
+    let (m, j, l, t) = number-passes (arms S k e) noTriple (S .triples) 0 i a in
+    let q : m ≡ i = omega arith in
+    (omega arith, rw q at t)
+
 module _ (S : Sheet) (plain : Plain S) where
   module _ (k : Configuration) (e : Event) (i : ℕ) where
     pub armed-arms : Among i (armedBy S k e) → Arms S k e i
-    unfolding armedBy arms
+    unfolding arms
     armed-arms a =
-        let (m, j, l, t) = number-passes (arms S k e) noTriple (S .triples) 0 i a in
-        let q : m ≡ i = omega arith in
-        let h : i < length (S .triples) = omega arith in
-        let (x, (y, z)) = simp (and-iff, eqb-iff) at (rw q at t) in
+        let (h, t) = armed-there S k e i a in
+        let (x, (y, z)) = simp (and-iff, eqb-iff) at t in
         record { there = h; inState = x; ofUnit = y; precondition = sym (plain .precondition i h (e .values) (k .variables) []) ∙ z }
 
     pub arms-armed : Arms S k e i → Among i (armedBy S k e)

@@ -8,4 +8,5 @@ pub mod Acceptance
 pub mod Exclusive
 pub mod Rows
 pub mod Starting
+pub mod Arming
 pub mod Soundness

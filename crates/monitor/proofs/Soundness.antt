@@ -3,12 +3,12 @@ use mathlib.Core.Path.{_≡_, refl, sym, ap, _∙_}
 use mathlib.Core.Logic.{inl, inr}
 use mathlib.Core.Bool.{Bool, true, false, not, cond, _&&_, false≢true}
 use mathlib.Core.Option.{Option, none, some}
-use mathlib.Core.List.{List, [], _∷_, map}
+use mathlib.Core.List.{List, [], _∷_, _++_, map, map-append}
 use Prim.Native.Nat.{ℕ, zero, suc, _+_, _≤_, _<_}
 use native.Mathlib.Omega.{arith}
-use borrow.Author.Tests.{eq-eqb, lt-ltb, le-leb}
+use borrow.Author.Tests.{eq-eqb, lt-ltb, le-leb, leb-false}
 use lib.Dec.{eqb, ltb}
-use lib.ListN.{length, getD, length-set}
+use lib.ListN.{length, getD, length-set, length-map, length-append}
 use Rattle.condition.specs.Tree.{Assignment}
 use Rattle.condition.specs.Parse.{parseAction}
 use Rattle.condition.specs.Meaning.{Environment, performed, assigned}
@@ -19,15 +19,18 @@ use Rattle.sheet.specs.Decode.{commonOf, sheetOf, transitionOf}
 use Rattle.sheet.specs.Reading.{isBad, lentIn, transitionsOf, sheetLayout}
 use Rattle.sheet.specs.Log.{Event}
 use Rattle.sheet.proofs.Accepted.{Accepted, bounds, sheet-transition}
-use Rattle.sheet.proofs.Tables.{and-parts, and-both}
+use Rattle.sheet.proofs.Tables.{and-parts, and-both, every-append}
 use Rattle.sheet.proofs.Tests.{and-iff, leb-iff, eqb-iff, not-iff}
 use Rattle.step.specs.Lists.{first, keep, any, least}
 use Rattle.step.specs.Meets.{acted, performedBy}
 use Rattle.step.specs.Moves.{Configuration, seen, enabled, after, moved}
+use Rattle.step.specs.Calls.{Call, isEntry}
 use Rattle.step.specs.Verdicts.{causeOf, placed, verdict}
 use Rattle.step.proofs.Lists.{Among, any-map, first-passes, kept-passes, least-some}
-use Rattle.monitor.specs.Monitor.{Armed, State, fresh, tripleIn, fails, failing, ofNumber, exited}
-use Rattle.monitor.specs.Sound.{distinct, rising, callSound, ifThere, verdictSound, sound}
+use Rattle.monitor.specs.Monitor.{Armed, State, fresh, tripleIn, fails, failing, ofNumber, armedBy, entered, exited, refusal, offered, offer}
+use Rattle.monitor.specs.Sound.{distinct, callSound, ifThere, verdictSound, sound}
+use Rattle.monitor.proofs.Calls.{Taken, begun, more, free}
+use Rattle.monitor.proofs.Arming.{among-every, armed-of, armed-rising, armed-one-state, armed-few}
 
 -- "A fresh state is defined for every accepted sheet": it is sound
 pub fresh-sound : {s : List ℕ} → Accepted sheetLayout s → sound (sheetOf s) (fresh (sheetOf s)) ≡ true
@@ -163,3 +166,72 @@ exited-sound {s} a σ e h =
     (and-both (distinct-keep q (σ .calls) d)
     (and-both (every-keep q (callSound (sheetOf s)) (σ .calls) k)
     (verdict-sound (sheetOf s) _ (σ .position + 1) _ (failing-there (sheetOf s) (σ .configuration) e (σ .calls) k))))))
+
+-- One more number, that is not among them.
+any-more : {A : Type 0} (p : A → Bool) (l : List A) (x : A) → any p l ≡ false → p x ≡ false → any p (l ++ x ∷ []) ≡ false
+unfolding any
+any-more p [] x h k = rw k
+any-more p (y ∷ l) x h k = go (p y) h (λ i. any-more p l x i k)
+  where
+    go : (b : Bool) → cond b true (any p l) ≡ false → (any p l ≡ false → any p (l ++ x ∷ []) ≡ false) → cond b true (any p (l ++ x ∷ [])) ≡ false
+    go true i f = i
+    go false i f = f i
+
+distinct-more : (l : List ℕ) (n : ℕ) → distinct l ≡ true → any (λ m. eqb m n) l ≡ false → distinct (l ++ n ∷ []) ≡ true
+unfolding distinct any
+distinct-more [] n h k = refl
+distinct-more (m ∷ l) n h k =
+    let (i, j) = simp (and-iff, not-iff) at h in
+    go (eqb m n) refl k i j (distinct-more l n j)
+  where
+    go : (b : Bool) → eqb m n ≡ b → cond b true (any (λ m. eqb m n) l) ≡ false → any (eqb m) l ≡ false → distinct l ≡ true
+        → (any (λ m. eqb m n) l ≡ false → distinct (l ++ n ∷ []) ≡ true) → (not (any (eqb m) (l ++ n ∷ [])) && distinct (l ++ n ∷ [])) ≡ true
+    go true e k i j f = absurd (false≢true (sym k))
+    go false e k i j f = rw (any-more (eqb m) l n i e) (f k)
+
+-- An entry that is taken keeps a sound state sound.
+module _ {s : List ℕ} (a : Accepted sheetLayout s) (σ : State) (e : Event) where
+  armed-sound : e .unit < commonOf s .units → length (e .values) ≡ commonOf s .programs
+      → callSound (sheetOf s) (record { call = record { number = e .number; unit = e .unit; kept = e .values }; armed = armedBy (sheetOf s) (σ .configuration) e }) ≡ true
+  unfolding callSound sheetOf
+  armed-sound u v =
+      let S = sheetOf s in
+      let k = σ .configuration in
+      and-both (lt-ltb _ _ u)
+      (and-both (eq-eqb _ _ v)
+      (and-both (le-leb _ _ (armed-few a k e))
+      (and-both (armed-rising S k e)
+      (and-both (among-every (λ i. ltb i (length (S .triples)) && eqb (tripleIn S i .unit) (e .unit)) (armedBy S k e) (λ i m. and-both (lt-ltb _ _ (armed-of S k e i m .0)) (eq-eqb _ _ (armed-of S k e i m .2)))) (armed-one-state S k e)))))
+
+  pub entered-sound : sound (sheetOf s) σ ≡ true → refusal (sheetOf s) σ e ≡ 0 → isEntry e ≡ true → sound (sheetOf s) (entered (sheetOf s) σ e) ≡ true
+  unfolding sound entered sheetOf every
+  entered-sound h z y =
+      let f = free (sheetOf s) σ e z in
+      let (m, (v, (c, (d, (k, w))))) = simp (and-iff, leb-iff, eqb-iff) at h in
+      let new : Armed = record { call = record { number = e .number; unit = e .unit; kept = e .values }; armed = armedBy (sheetOf s) (σ .configuration) e } in
+      let shut : any (λ (b : Call). eqb (b .number) (e .number)) (map (λ (b : Armed). b .call) (σ .calls)) ≡ false = rw y at (f .notOpen) in
+      let room = leb-false 16 (length (map (λ (b : Armed). b .call) (σ .calls))) (rw y at (f .room)) in
+      let long = length-map (σ .calls) (λ (b : Armed). b .call) in
+      let longer = length-append (σ .calls) (new ∷ []) in
+      let apart = any-map (λ n. eqb n (e .number)) (λ (b : Armed). b .call .number) (σ .calls) ∙ sym (any-map (λ (b : Call). eqb (b .number) (e .number)) (λ (b : Armed). b .call) (σ .calls)) ∙ shut in
+      and-both (lt-ltb _ _ (moved-main a (σ .configuration) e m))
+      (and-both (eq-eqb _ _ (moved-variables a (σ .configuration) e ∙ v))
+      (and-both (le-leb (length (σ .calls ++ new ∷ [])) 16 (omega arith))
+      (and-both (ap distinct (map-append (λ (b : Armed). b .call .number) (σ .calls) (new ∷ [])) ∙ distinct-more (map (λ (b : Armed). b .call .number) (σ .calls)) (e .number) d apart)
+      (and-both (every-append (callSound (sheetOf s)) (σ .calls) (new ∷ []) ∙ and-both k (and-both (armed-sound (f .unit) (f .values)) refl))
+      (verdict-sound (sheetOf s) _ (σ .position + 1) none refl)))))
+
+  -- "The state comes back as it went in" where the event is refused; a taken one keeps it sound.
+  pub offer-sound : sound (sheetOf s) σ ≡ true → sound (sheetOf s) (offer (sheetOf s) σ e .state) ≡ true
+  unfolding offer
+  offer-sound h = go (refusal (sheetOf s) σ e) refl (isEntry e) refl
+    where
+      go : (n : ℕ) → refusal (sheetOf s) σ e ≡ n → (b : Bool) → isEntry e ≡ b → sound (sheetOf s) (offered n σ (cond b (entered (sheetOf s) σ e) (exited (sheetOf s) σ e)) .state) ≡ true
+      go zero z true y = entered-sound h z y
+      go zero z false y = exited-sound a σ e h
+      go (suc n) z b y = h
+
+-- so every state of a run is sound, and no run meets 9
+pub taken-sound : {s : List ℕ} (a : Accepted sheetLayout s) {w : List Event} {σ : State} → Taken (sheetOf s) w σ → sound (sheetOf s) σ ≡ true
+taken-sound a begun = fresh-sound a
+taken-sound a (more t e z) = offer-sound a _ e (taken-sound a t)
