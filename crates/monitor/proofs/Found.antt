@@ -30,7 +30,7 @@ Clear S w = (u v : List Event) → w ≡ u ++ v → Counterexample S u → ⊥
 pub record Finds (S : Sheet) (w : List Event) (v : Verdict) : Type 0 where
   pub counterexample : Counterexample S w
   pub position : v .position ≡ length w
-  pub state : stateIn (v .cause) ≡ badState (S .common) (reached S w .main)
+  pub state : stateIn (v .cause) ≡ badState (S .common .bad) (reached S w .main)
   pub triple : Lowest S w (tripleIn (v .cause))
 
 module _ (S : Sheet) where

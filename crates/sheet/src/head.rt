@@ -1,7 +1,7 @@
 // The header's tests: refusals 1 to 3.
 
 ghost use mathlib.Core.Path.{_≡_};
-ghost use Rattle.sheet.specs.Reading.{whole, countsHold, startHolds, between};
+ghost use Rattle.sheet.specs.Reading.{isBad, whole, countsHold, startHolds, between};
 use crate::bytes::byte;
 use crate::bytes::half;
 use crate::bytes::number;
@@ -46,4 +46,10 @@ fn start_holds(s: &[u8]) -> bool
     let past = shifted(bad, byte(s, 3));
     let from_start = shifted(bad, byte(s, 7));
     (start < states) & ((past == 0) & !(from_start % 2 == 1))
+}
+
+pub(crate) fn is_bad(bad: u16, state: u8) -> bool
+    ensures { λ r. ⌜ r ≡ isBad bad state ⌝ }
+{
+    shifted(bad as u32, state) % 2 == 1
 }

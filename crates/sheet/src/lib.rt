@@ -6,7 +6,7 @@ ghost use lib.ListN.{drop};
 ghost use Rattle.sheet.specs.Bytes.{byte};
 ghost use Rattle.sheet.specs.Table.{fit, table};
 ghost use Rattle.sheet.specs.Decode.{wordForm, textForm, transitionOf, tripleForm, pairForm, templateForm};
-ghost use Rattle.sheet.specs.Reading.{sheetLayout, networkLayout, reading};
+ghost use Rattle.sheet.specs.Reading.{isBad, sheetLayout, networkLayout, reading};
 ghost use Rattle.sheet.specs.Log.{logReading, recordsIn};
 ghost use Rattle.sheet.specs.Answer.{answer, headerOf, placesOf, logAnswer, recordOf};
 
@@ -128,6 +128,13 @@ pub fn header_of(s: &[u8]) -> Header
         transitions: bytes::byte(s, 12),
         last: bytes::byte(s, 13),
     }
+}
+
+// Whether a state is bad, by the bits of the header.
+pub fn is_bad(bad: u16, state: u8) -> bool
+    ensures { λ r. ⌜ r ≡ isBad bad state ⌝ }
+{
+    head::is_bad(bad, state)
 }
 
 // Where the parts of a sheet stand.

@@ -47,6 +47,6 @@ module _ (C : Common) (position main : ℕ) where
   some-step false (some i) v e = let (p, q) = placed-some (cause.Triple i) v e in (p, rw q, rw q, inr (i, refl))
 
   pub verdict-some : (t : Option ℕ) (v : Verdict) → verdict C position main t ≡ some v
-      → (v .position ≡ position) × (stateIn (v .cause) ≡ badState C main) × (tripleIn (v .cause) ≡ t) × ((isBad (C .bad) main ≡ true) ⊎ ((i : ℕ) × (t ≡ some i)))
+      → (v .position ≡ position) × (stateIn (v .cause) ≡ badState (C .bad) main) × (tripleIn (v .cause) ≡ t) × ((isBad (C .bad) main ≡ true) ⊎ ((i : ℕ) × (t ≡ some i)))
   unfolding verdict
   verdict-some t v e = some-step (isBad (C .bad) main) t v e

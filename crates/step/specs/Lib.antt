@@ -5,3 +5,5 @@ pub mod Moves
 pub mod Calls
 pub mod Verdicts
 pub mod Walk
+pub mod Padding
+pub mod Answers

@@ -1,8 +1,9 @@
 -- Lists: the first element that passes a test, those that pass it, the least of some numbers.
-use mathlib.Core.Bool.{Bool, true, false, cond}
+use mathlib.Core.Bool.{Bool, true, false, not, cond, _&&_}
 use mathlib.Core.Option.{Option, none, some}
 use mathlib.Core.List.{List, [], _∷_}
 use Prim.Native.Nat.{ℕ, zero, suc, _+_, min}
+use lib.Dec.{eqb}
 
 unfoldable pub first : {A : Type 0} → (A → Bool) → List A → Option A
 first p [] = none
@@ -28,3 +29,14 @@ lesser n (some m) = some (min n m)
 unfoldable pub least : List ℕ → Option ℕ
 least [] = none
 least (n ∷ l) = lesser n (least l)
+
+-- all different
+unfoldable pub distinct : List ℕ → Bool
+distinct [] = true
+distinct (n ∷ l) = not (any (eqb n) l) && distinct l
+
+-- two lists side by side
+unfoldable pub beside : {A B C : Type 0} → (A → B → C) → List A → List B → List C
+beside f [] m = []
+beside f (x ∷ l) [] = []
+beside f (x ∷ l) (y ∷ m) = f x y ∷ beside f l m

@@ -1,12 +1,15 @@
 -- Verdicts (document 01, "One event").
-use mathlib.Core.Bool.{Bool, cond}
+use mathlib.Core.Bool.{Bool, true, not, cond, _&&_}
 use mathlib.Core.Option.{Option, none, some}
 use Prim.Native.Nat.{ℕ}
+use lib.Dec.{eqb, ltb}
 use Rattle.sheet.specs.Parts.{Common}
 use Rattle.sheet.specs.Reading.{isBad}
 use Rattle.step.specs.declared.Cause.{Cause}
 use Rattle.step.specs.declared.Cause.the-variants as cause
 use Rattle.step.specs.declared.Verdict.{Verdict}
+use Rattle.step.specs.declared.Outcome.{Outcome}
+use Rattle.step.specs.declared.Outcome.the-variants.{Open, Judged}
 
 -- "its cause: the bad state, the lowest failing triple, or both"
 abbrev pub causeOf : Option ℕ → Option ℕ → Option Cause
@@ -19,12 +22,15 @@ abbrev pub placed : ℕ → Option Cause → Option Verdict
 placed position none = none
 placed position (some c) = some (record { position = position; cause = c })
 
-abbrev pub badState : Common → ℕ → Option ℕ
-badState C q = cond (isBad (C .bad) q) (some q) none
+abbrev pub badState : ℕ → ℕ → Option ℕ
+badState bad q = cond (isBad bad q) (some q) none
 
 -- "A verdict is complete at an event if the new state is bad or an armed postcondition fails. It holds the event's position"
+abbrev pub verdictFor : ℕ → ℕ → ℕ → Option ℕ → Option Verdict
+verdictFor bad position main triple = placed position (causeOf (badState bad main) triple)
+
 unfoldable pub verdict : Common → ℕ → ℕ → Option ℕ → Option Verdict
-verdict C position main triple = placed position (causeOf (badState C main) triple)
+verdict C position main triple = verdictFor (C .bad) position main triple
 
 -- The paper's state and triple for each case of a cause.
 abbrev pub stateIn : Cause → Option ℕ
@@ -36,3 +42,23 @@ abbrev pub tripleIn : Cause → Option ℕ
 tripleIn (cause.BadState q) = none
 tripleIn (cause.Triple t) = some t
 tripleIn (cause.Both q t) = some t
+
+abbrev pub ifThere : Option ℕ → (ℕ → Bool) → Bool
+ifThere none p = true
+ifThere (some n) p = p n
+
+-- Sound, for some bad states and so many triples: "a verdict's position is the state's, any bad state in it is the main state and is bad, its triple
+-- exists, and one of the two is there" (a cause has one); "without a verdict the main state isn't bad"
+abbrev pub verdictFits : ℕ → ℕ → ℕ → ℕ → Option Verdict → Bool
+verdictFits bad triples main position none = not (isBad bad main)
+verdictFits bad triples main position (some v) =
+    eqb (v .position) position && (ifThere (stateIn (v .cause)) (λ q. eqb q main && isBad bad q) && ifThere (tripleIn (v .cause)) (λ t. ltb t triples))
+
+-- a verdict as a state holds it
+abbrev pub outcomeOf : Option Verdict → Outcome
+outcomeOf none = Open
+outcomeOf (some v) = Judged v
+
+abbrev pub verdictIn : Outcome → Option Verdict
+verdictIn Open = none
+verdictIn (Judged v) = some v

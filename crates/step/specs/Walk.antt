@@ -1,5 +1,6 @@
 -- What the operations on the bytes answer, for all bytes and all indexes. On accepted ones they are the definitions of Meets and Moves.
 use mathlib.Core.Bool.{Bool, true, false, cond, _&&_}
+use mathlib.Core.Option.{Option, none, some}
 use mathlib.Core.List.{List, [], _∷_}
 use Prim.Native.Nat.{ℕ, zero, suc, _+_, _*_}
 use lib.Dec.{ltb, eqb}
@@ -17,6 +18,7 @@ use Rattle.step.specs.declared.Call.{Call}
 use Rattle.step.specs.declared.Key.{Key}
 use Rattle.step.specs.declared.Found.{Found}
 use Rattle.step.specs.declared.Found.the-variants.{At, Nothing}
+use Rattle.step.specs.declared.Moved.{Moved}
 
 -- given and true; what is refused does not hold
 abbrev pub trueOf : Outcome Bool → Bool
@@ -55,3 +57,12 @@ unpad programs c = record { number = c .number; unit = c .unit; kept = take prog
 
 abbrev pub eventOf : Record → List ℕ → Event
 eventOf r values = record { kind = r .kind; unit = r .unit; number = r .number; values = values }
+
+-- the main state and the variables after the transition that was found
+abbrev pub movedAt : List ℕ → List ℕ → Found → List ℕ → ℕ → List ℕ → ℕ → Moved
+movedAt s index Nothing values main variables count = record { main = main; variables = variables }
+movedAt s index (At p) values main variables count = let t = transitionOf (drop p s) in record { main = t .to; variables = actedAt s index (t .action) values count variables }
+
+-- a byte's number, or none for what is past a byte
+abbrev pub numberIn : ℕ → Option ℕ
+numberIn n = cond (ltb n 256) (some n) none

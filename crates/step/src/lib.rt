@@ -11,9 +11,12 @@ ghost use Rattle.condition.specs.Answer.{conditionPaper};
 ghost use Rattle.sheet.specs.Decode.{transitionOf};
 ghost use Rattle.step.specs.Lists.{any};
 ghost use Rattle.step.specs.Calls.{refusalsFor, lowest};
-ghost use Rattle.step.specs.Walk.{unpad, eventOf, trueOf, meetsAt, actedAt, placeOf, enabledAt, baseForm, firstPlace};
+ghost use Rattle.step.specs.Walk.{unpad, eventOf, trueOf, meetsAt, actedAt, placeOf, enabledAt, baseForm, firstPlace, movedAt};
 use condition::ConditionAnswer;
 use sheet::Record;
+
+pub mod outcomes;
+pub mod rows;
 
 // Why a verdict is complete: the bad state, the lowest failing triple, or both.
 pub enum Cause {
@@ -26,6 +29,27 @@ pub enum Cause {
 pub struct Verdict {
     pub position: u32,
     pub cause: Cause,
+}
+
+// Whether there is a verdict.
+pub enum Outcome {
+    Open,
+    Judged(Verdict),
+}
+
+// What offering an event answers.
+pub enum Answer {
+    Taken,
+    Refused(u8),
+}
+
+// What running a log answers: the verdict; or how many events there were, the main state and how
+// many calls are open; or a refusal; or that of an event, and its record.
+pub enum RunAnswer {
+    Violated(Verdict),
+    Clean(u32, u8, u8),
+    Refused(u8),
+    RefusedAt(u8, u32),
 }
 
 // An open call: its number, its unit, and the values kept at its entry.
@@ -46,6 +70,12 @@ pub struct Key {
 pub enum Found {
     At(u32),
     Nothing,
+}
+
+// The main state and the variables after an event.
+pub struct Moved {
+    pub main: u8,
+    pub variables: [u32; 4],
 }
 
 // Whether a condition holds over the lent values, by its number in the index of a sheet or network.
@@ -199,6 +229,30 @@ pub fn first_enabled(
         left -= 1;
     }
     Found::Nothing
+}
+
+// The main state and the variables after the transition that was found: its action, then its state.
+pub fn take_transition(
+    s: &[u8],
+    found: Found,
+    index: &[u32; 65],
+    values: &[u32],
+    main: u8,
+    variables: [u32; 4],
+    count: usize,
+) -> Moved
+    ensures { λ r. ⌜ r ≡ movedAt (now (s .entry)) (now (index .entry)) found (now (values .entry)) main variables count ⌝ }
+{
+    match found {
+        Found::At(place) => {
+            let t = sheet::transition_at(s, place);
+            Moved {
+                main: t.to,
+                variables: perform_action(s, index, t.action, values, variables, count),
+            }
+        }
+        Found::Nothing => Moved { main, variables },
+    }
 }
 
 // Whether the transition at a place can be taken. Its condition is evaluated only where the rest fits.

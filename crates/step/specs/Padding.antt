@@ -1,0 +1,22 @@
+-- Calls as the operations hold them: arrays with zeros behind what is there.
+use mathlib.Core.Bool.{Bool, _&&_}
+use mathlib.Core.List.{List}
+use Prim.Native.Nat.{ℕ}
+use lib.Dec.{eqb}
+use lib.ListN.{drop, replicate}
+use Rattle.sheet.specs.Table.{every, fit}
+use Rattle.step.specs.declared.Call.{Call}
+use Rattle.step.specs.Calls as Calls
+
+abbrev pub zeroCall : Call
+zeroCall = record { number = 0; unit = 0; kept = replicate 8 0 }
+
+abbrev pub padCall : Calls.Call → Call
+padCall c = record { number = c .number; unit = c .unit; kept = fit 8 0 (c .kept) }
+
+-- zeros from a place on
+unfoldable pub clear : ℕ → List ℕ → Bool
+clear n l = every (λ x. eqb x 0) (drop n l)
+
+abbrev pub isZeroCall : Call → Bool
+isZeroCall c = eqb (c .number) 0 && (eqb (c .unit) 0 && clear 0 (c .kept))
