@@ -1,5 +1,7 @@
 -- The monitor on a sheet, and the published definition of its verdicts.
 pub mod Monitor
 pub mod Published
-pub mod Padded
 pub mod Sound
+pub mod Padded
+pub mod Answers
+pub mod Walk

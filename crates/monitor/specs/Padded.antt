@@ -1,24 +1,26 @@
 -- States as the operations hold them: arrays with zeros behind what is there.
-use mathlib.Core.Option.{Option, none, some}
+use mathlib.Core.Bool.{Bool, _&&_}
 use mathlib.Core.List.{List, map}
 use Prim.Native.Nat.{ℕ, zero, suc}
-use lib.ListN.{length, replicate}
-use Rattle.sheet.specs.Table.{fit}
+use lib.Dec.{eqb, leb}
+use lib.ListN.{length, replicate, take, drop}
+use Rattle.sheet.specs.Table.{every, fit}
+use Rattle.sheet.specs.Parts.{Sheet}
 use Rattle.sheet.specs.Decode.{sheetOf}
 use Rattle.sheet.specs.Reading.{reading, sheetLayout}
 use Rattle.sheet.specs.Answer.{answer}
 use Rattle.step.specs.declared.Call.{Call}
-use Rattle.step.specs.declared.Verdict.{Verdict}
-use Rattle.step.specs.Calls as Calls
+use Rattle.step.specs.declared.Outcome.the-variants.{Open}
+use Rattle.step.specs.Lists.{beside}
+use Rattle.step.specs.Calls.{mostCalls}
+use Rattle.step.specs.Verdicts.{outcomeOf, verdictIn}
+use Rattle.step.specs.Walk.{unpad}
+use Rattle.step.specs.Padding.{zeroCall, padCall, clear, padded, isZeroCall}
 use Rattle.monitor.specs.declared.Arms.{Arms}
-use Rattle.monitor.specs.declared.Outcome.{Outcome}
-use Rattle.monitor.specs.declared.Outcome.the-variants.{Open, Judged}
 use Rattle.monitor.specs.declared.WatchState.{WatchState}
 use Rattle.monitor.specs.declared.Fresh.{Fresh}
 use Rattle.monitor.specs.Monitor.{Armed, State, fresh}
-
-abbrev pub zeroCall : Call
-zeroCall = record { number = 0; unit = 0; kept = replicate 8 0 }
+use Rattle.monitor.specs.Sound.{sound}
 
 abbrev pub zeroArms : Arms
 zeroArms = record { count = 0; triples = replicate 4 0 }
@@ -27,15 +29,8 @@ zeroArms = record { count = 0; triples = replicate 4 0 }
 abbrev pub zeroState : WatchState
 zeroState = record { main = 0; variables = replicate 4 0; opened = 0; calls = replicate 16 zeroCall; arms = replicate 16 zeroArms; position = 0; outcome = Open }
 
-abbrev pub padCall : Calls.Call → Call
-padCall c = record { number = c .number; unit = c .unit; kept = fit 8 0 (c .kept) }
-
 abbrev pub padArms : List ℕ → Arms
 padArms l = record { count = length l; triples = fit 4 0 l }
-
-abbrev pub outcomeOf : Option Verdict → Outcome
-outcomeOf none = Open
-outcomeOf (some v) = Judged v
 
 -- "calls fill the first places ..; unused places and variables are zero"
 unfoldable pub pad : State → WatchState
@@ -49,6 +44,35 @@ pad σ =
       position = σ .position;
       outcome = outcomeOf (σ .verdict);
     }
+
+-- What a state shows: of a call the first P kept values and the triples armed; the first V variables and the first `opened` calls.
+abbrev pub shown : ℕ → Call → Arms → Armed
+shown programs c a = record { call = unpad programs c; armed = take (a .count) (a .triples) }
+
+unfoldable pub view : Sheet → WatchState → State
+view S w =
+    record {
+      configuration = record { main = w .main; variables = take (S .common .monitors) (w .variables) };
+      calls = beside (shown (S .common .programs)) (take (w .opened) (w .calls)) (take (w .opened) (w .arms));
+      position = w .position;
+      verdict = verdictIn (w .outcome);
+    }
+
+-- "unused places and variables are zero"
+abbrev pub isZeroArms : Arms → Bool
+isZeroArms a = eqb (a .count) 0 && clear 0 (a .triples)
+
+abbrev pub tidyArms : Arms → Bool
+tidyArms a = leb (a .count) 4 && padded 4 (a .count) (a .triples)
+
+unfoldable pub tidy : Sheet → WatchState → Bool
+tidy S w =
+    padded 4 (S .common .monitors) (w .variables) && (eqb (length (w .calls)) 16 && (eqb (length (w .arms)) 16
+    && (every (λ (c : Call). padded 8 (S .common .programs) (c .kept)) (w .calls) && (every tidyArms (w .arms) && (every isZeroCall (drop (w .opened) (w .calls)) && every isZeroArms (drop (w .opened) (w .arms)))))))
+
+-- "A state is sound if ..": what it shows is, and the rest is zero
+unfoldable pub soundState : Sheet → WatchState → Bool
+soundState S w = leb (w .opened) mostCalls && (tidy S w && sound S (view S w))
 
 abbrev pub whenAccepted : ℕ → WatchState → WatchState
 whenAccepted zero τ = τ

@@ -3,7 +3,7 @@ use mathlib.Core.Bool.{Bool, _&&_}
 use mathlib.Core.List.{List}
 use Prim.Native.Nat.{ℕ}
 use lib.Dec.{eqb}
-use lib.ListN.{drop, replicate}
+use lib.ListN.{length, drop, replicate}
 use Rattle.sheet.specs.Table.{every, fit}
 use Rattle.step.specs.declared.Call.{Call}
 use Rattle.step.specs.Calls as Calls
@@ -17,6 +17,10 @@ padCall c = record { number = c .number; unit = c .unit; kept = fit 8 0 (c .kept
 -- zeros from a place on
 unfoldable pub clear : ℕ → List ℕ → Bool
 clear n l = every (λ x. eqb x 0) (drop n l)
+
+-- an array of so many places, with zeros from one on
+abbrev pub padded : ℕ → ℕ → List ℕ → Bool
+padded size n l = eqb (length l) size && clear n l
 
 abbrev pub isZeroCall : Call → Bool
 isZeroCall c = eqb (c .number) 0 && (eqb (c .unit) 0 && clear 0 (c .kept))

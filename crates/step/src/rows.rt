@@ -7,7 +7,7 @@ ghost use lib.Dec.{eqb};
 ghost use lib.ListN.{set, take, drop};
 ghost use Rattle.sheet.specs.Table.{every, fit};
 ghost use Rattle.step.specs.Lists.{keep, distinct};
-ghost use Rattle.step.specs.Padding.{zeroCall, clear, isZeroCall};
+ghost use Rattle.step.specs.Padding.{zeroCall, clear, padded, isZeroCall};
 use crate::Call;
 
 // The place of no call.
@@ -87,7 +87,7 @@ pub fn clear_from(values: &[u32], from: usize) -> bool
 
 // Whether every call keeps zeros from a value's number on.
 pub fn kept_clear(calls: [Call; 16], from: usize) -> bool
-    ensures { λ r. ⌜ r ≡ every (λ c. clear from (c .kept)) calls ⌝ }
+    ensures { λ r. ⌜ r ≡ every (λ c. padded 8 from (c .kept)) calls ⌝ }
 {
     let mut i = 0;
     while i < 16 {

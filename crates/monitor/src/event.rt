@@ -1,0 +1,390 @@
+// One event on an accepted sheet and a sound state.
+
+ghost use mathlib.Core.Path.{_≡_};
+ghost use mathlib.Core.Bool.{cond, not};
+ghost use mathlib.Core.List.{[]};
+ghost use Prim.Native.Nat.{min, _<_, _≤_};
+ghost use lib.Dec.{eqb};
+ghost use lib.ListN.{length, getD, set, take, drop};
+ghost use Rattle.condition.specs.Meaning.{environment};
+ghost use Rattle.sheet.specs.Bytes.{byte};
+ghost use Rattle.sheet.specs.Table.{fit, table};
+ghost use Rattle.sheet.specs.Decode.{tripleForm, sheetOf};
+ghost use Rattle.step.specs.Lists.{keep, numbers};
+ghost use Rattle.step.specs.Padding.{zeroCall};
+ghost use Rattle.step.specs.Verdicts.{verdictIn};
+ghost use Rattle.step.specs.Walk.{eventOf};
+ghost use Rattle.monitor.specs.Monitor as Monitor;
+ghost use Rattle.monitor.specs.Padded.{zeroArms, padArms, pad, view};
+ghost use Rattle.monitor.specs.Walk.{Prepared, Ready, movedTo, armsAt, failsAt, leastOf, keepBeside};
+use crate::Arms;
+use crate::WatchState;
+use sheet::Header;
+use sheet::Record;
+use step::Call;
+use step::Key;
+use step::Moved;
+use step::Outcome;
+
+// The numbers of an accepted sheet's header, and where its transitions and triples begin.
+pub struct Tables {
+    pub header: Header,
+    pub transitions: u16,
+    pub triples: u16,
+}
+
+// The lowest of refusals 10 to 15, or 0.
+pub(crate) fn refusal(
+    s: &[u8],
+    t: Tables,
+    conditions: &[u32; 65],
+    actions: &[u32; 65],
+    state: WatchState,
+    event: Record,
+    values: &[u32],
+) -> u8
+    requires { ⌜ Prepared (now s) t (now conditions) (now actions) ⌝ }
+    ensures { λ r. ⌜ r ≡ Monitor.refusal (sheetOf (now (s .entry))) (view (sheetOf (now (s .entry))) state) (eventOf event (now (values .entry))) ⌝ }
+{
+    let h = t.header;
+    let outcome = state.outcome;
+    step::refusal(
+        h.units,
+        h.programs,
+        is_judged(outcome),
+        state.position,
+        state.calls,
+        wide(state.opened),
+        event,
+        values,
+    )
+}
+
+fn is_judged(outcome: Outcome) -> bool
+    ensures { λ r. ⌜ r ≡ Monitor.isJudged (verdictIn outcome) ⌝ }
+{
+    match outcome {
+        Outcome::Open => false,
+        Outcome::Judged(_) => true,
+    }
+}
+
+// The state after an event that is not refused.
+pub(crate) fn taken(
+    s: &[u8],
+    t: Tables,
+    conditions: &[u32; 65],
+    actions: &[u32; 65],
+    state: WatchState,
+    event: Record,
+    values: &[u32],
+) -> WatchState
+    requires { ⌜ Prepared (now s) t (now conditions) (now actions) × Ready (now s) state × (Monitor.refusal (sheetOf (now s)) (view (sheetOf (now s)) state) (eventOf event (now values)) ≡ 0) ⌝ }
+    ensures { λ r. ⌜ r ≡ pad (Monitor.offer (sheetOf (now (s .entry))) (view (sheetOf (now (s .entry))) state) (eventOf event (now (values .entry))) .state) ⌝ }
+{
+    if event.kind == 0 {
+        entered(s, t, conditions, actions, state, event, values)
+    } else {
+        exited(s, t, conditions, actions, state, event, values)
+    }
+}
+
+// An entry: the triples of the state held before it are armed, and the values kept.
+fn entered(
+    s: &[u8],
+    t: Tables,
+    conditions: &[u32; 65],
+    actions: &[u32; 65],
+    state: WatchState,
+    event: Record,
+    values: &[u32],
+) -> WatchState
+    requires { ⌜ Prepared (now s) t (now conditions) (now actions) × Ready (now s) state × (Monitor.refusal (sheetOf (now s)) (view (sheetOf (now s)) state) (eventOf event (now values)) ≡ 0) × (event .kind ≡ 0) ⌝ }
+    ensures { λ r. ⌜ r ≡ pad (Monitor.entered (sheetOf (now (s .entry))) (view (sheetOf (now (s .entry))) state) (eventOf event (now (values .entry)))) ⌝ }
+{
+    let h = t.header;
+    let moved = moved(
+        s,
+        t,
+        conditions,
+        actions,
+        state.main,
+        state.variables,
+        event,
+        values,
+    );
+    let arms = arm(
+        s,
+        t.triples,
+        h.last,
+        state.main,
+        event.unit,
+        conditions,
+        values,
+    );
+    let opened = wide(state.opened);
+    let call = Call {
+        number: event.number,
+        unit: event.unit,
+        kept: step::rows::eight(values),
+    };
+    let position = state.position + 1;
+    WatchState {
+        main: moved.main,
+        variables: moved.variables,
+        opened: state.opened + 1,
+        calls: step::rows::with_call(state.calls, opened, call),
+        arms: with_arms(state.arms, opened, arms),
+        position,
+        outcome: step::outcomes::outcome(h.bad, position, moved.main, 256),
+    }
+}
+
+// An exit: the triples armed for its call are judged, and its place is free.
+fn exited(
+    s: &[u8],
+    t: Tables,
+    conditions: &[u32; 65],
+    actions: &[u32; 65],
+    state: WatchState,
+    event: Record,
+    values: &[u32],
+) -> WatchState
+    requires { ⌜ Prepared (now s) t (now conditions) (now actions) × Ready (now s) state × (Monitor.refusal (sheetOf (now s)) (view (sheetOf (now s)) state) (eventOf event (now values)) ≡ 0) × (event .kind ≡ 1) ⌝ }
+    ensures { λ r. ⌜ r ≡ pad (Monitor.exited (sheetOf (now (s .entry))) (view (sheetOf (now (s .entry))) state) (eventOf event (now (values .entry)))) ⌝ }
+{
+    let h = t.header;
+    let moved = moved(
+        s,
+        t,
+        conditions,
+        actions,
+        state.main,
+        state.variables,
+        event,
+        values,
+    );
+    let opened = wide(state.opened);
+    let place = step::call_place(state.calls, opened, event.number);
+    let low = judged(s, t, conditions, state.calls, state.arms, place, values);
+    let position = state.position + 1;
+    WatchState {
+        main: moved.main,
+        variables: moved.variables,
+        opened: state.opened - 1,
+        calls: step::rows::without_call(state.calls, opened, event.number),
+        arms: without_arms(state.calls, state.arms, opened, event.number),
+        position,
+        outcome: step::outcomes::outcome(h.bad, position, moved.main, low),
+    }
+}
+
+// The first transition that can be taken: its action, then its state.
+fn moved(
+    s: &[u8],
+    t: Tables,
+    conditions: &[u32; 65],
+    actions: &[u32; 65],
+    main: u8,
+    variables: [u32; 4],
+    event: Record,
+    values: &[u32],
+) -> Moved
+    requires { ⌜ Prepared (now s) t (now conditions) (now actions) × (length (now values) ≡ byte (now s) 5) ⌝ }
+    ensures { λ r. ⌜ r ≡ movedTo (now (s .entry)) main variables (eventOf event (now (values .entry))) ⌝ }
+{
+    let h = t.header;
+    let count = wide(h.monitors);
+    let key = Key {
+        from: main,
+        kind: event.kind,
+        unit: event.unit,
+    };
+    let found = step::first_enabled(
+        s,
+        t.transitions,
+        h.transitions,
+        false,
+        key,
+        conditions,
+        values,
+        &variables[..count],
+    );
+    step::take_transition(s, found, actions, values, main, variables, count)
+}
+
+// The triples of a state and unit whose precondition holds: the first four, and how many.
+fn arm(
+    s: &[u8],
+    at: u16,
+    n: u8,
+    state: u8,
+    unit: u8,
+    conditions: &[u32; 65],
+    values: &[u32],
+) -> Arms
+    ensures { λ r. ⌜ r ≡ padArms (numbers (armsAt (now (s .entry)) (now (conditions .entry)) state unit (environment (now (values .entry)) [] [])) 0 (table tripleForm n (now (s .entry)) at)) ⌝ }
+{
+    let mut triples = [0u8; 4];
+    let mut count = 0;
+    let mut i: u8 = 0;
+    let mut place = long(at);
+    while i < n {
+        if arms(s, place, state, unit, conditions, values) {
+            if count < 4 {
+                triples[count] = i;
+            }
+            count += 1;
+        }
+        place += 4;
+        i += 1;
+    }
+    Arms {
+        count: count as u8,
+        triples,
+    }
+}
+
+// Whether the triple at a place is armed. Its precondition is evaluated only where the rest fits.
+fn arms(s: &[u8], at: u32, state: u8, unit: u8, conditions: &[u32; 65], values: &[u32]) -> bool
+    ensures { λ r. ⌜ r ≡ armsAt (now (s .entry)) (now (conditions .entry)) state unit (environment (now (values .entry)) [] []) (tripleForm .value (drop at (now (s .entry)))) ⌝ }
+{
+    let t = sheet::triple_at(s, at);
+    if (t.state == state) & (t.unit == unit) {
+        step::condition_holds(
+            s,
+            conditions,
+            t.precondition,
+            values,
+            &values[..0],
+            &values[..0],
+        )
+    } else {
+        false
+    }
+}
+
+// The lowest triple armed for the call at a place that fails, or 256.
+fn judged(
+    s: &[u8],
+    t: Tables,
+    conditions: &[u32; 65],
+    calls: [Call; 16],
+    arms: [Arms; 16],
+    place: usize,
+    values: &[u32],
+) -> u16
+    requires { ⌜ (place < 16) × (t .header .programs ≤ 8) ⌝ }
+    ensures { λ r. ⌜ r ≡ leastOf 256 (keep (failsAt (now (s .entry)) (now (conditions .entry)) (t .triples) (environment (now (values .entry)) [] (take (t .header .programs) (getD calls place zeroCall .kept)))) (take (getD arms place zeroArms .count) (getD arms place zeroArms .triples))) ⌝ }
+{
+    let h = t.header;
+    let call = calls[place];
+    let kept = call.kept;
+    let count = wide(h.programs);
+    lowest_failing(
+        s,
+        t.triples,
+        arms[place],
+        conditions,
+        values,
+        &kept[..count],
+    )
+}
+
+// The lowest of some triples whose postcondition fails, or 256.
+fn lowest_failing(
+    s: &[u8],
+    at: u16,
+    arms: Arms,
+    conditions: &[u32; 65],
+    values: &[u32],
+    kept: &[u32],
+) -> u16
+    ensures { λ r. ⌜ r ≡ leastOf 256 (keep (failsAt (now (s .entry)) (now (conditions .entry)) at (environment (now (values .entry)) [] (now (kept .entry)))) (take (arms .count) (arms .triples))) ⌝ }
+{
+    let triples = arms.triples;
+    let count = wide(arms.count);
+    let mut low = 256;
+    let mut i = 0;
+    while i < count {
+        if i < 4 {
+            let n = triples[i];
+            if fails(s, at, n, conditions, values, kept) {
+                low = lesser(low, n);
+            }
+        } else {
+            return low;
+        }
+        i += 1;
+    }
+    low
+}
+
+// Whether the postcondition of a triple does not hold.
+fn fails(s: &[u8], at: u16, n: u8, conditions: &[u32; 65], values: &[u32], kept: &[u32]) -> bool
+    ensures { λ r. ⌜ r ≡ failsAt (now (s .entry)) (now (conditions .entry)) at (environment (now (values .entry)) [] (now (kept .entry))) n ⌝ }
+{
+    let t = sheet::triple_at(s, long(at) + 4 * word(n));
+    !step::condition_holds(s, conditions, t.postcondition, values, &values[..0], kept)
+}
+
+fn lesser(low: u16, n: u8) -> u16
+    ensures { λ r. ⌜ r ≡ min low n ⌝ }
+{
+    let m = n as u16;
+    if m < low { m } else { low }
+}
+
+// The row with what is armed for a call at a place; a place past the end stores nothing.
+fn with_arms(arms: [Arms; 16], at: usize, new: Arms) -> [Arms; 16]
+    ensures { λ r. ⌜ r ≡ set arms at new ⌝ }
+{
+    let mut out = arms;
+    if at < 16 {
+        out[at] = new;
+    }
+    out
+}
+
+// What is armed for the first `opened` calls but for those of a number, closed up.
+fn without_arms(calls: [Call; 16], arms: [Arms; 16], opened: usize, number: u16) -> [Arms; 16]
+    ensures { λ r. ⌜ r ≡ fit 16 zeroArms (keepBeside (λ c. not (eqb (c .number) number)) (take opened calls) (take opened arms)) ⌝ }
+{
+    let mut out = [Arms {
+        count: 0,
+        triples: [0; 4],
+    }; 16];
+    let mut i = 0;
+    let mut j = 0;
+    while i < opened {
+        if i < 16 {
+            let c = calls[i];
+            if c.number == number {} else {
+                out[j] = arms[i];
+                j += 1;
+            }
+        } else {
+            return out;
+        }
+        i += 1;
+    }
+    out
+}
+
+pub(crate) fn wide(x: u8) -> usize
+    ensures { λ r. ⌜ (r ≡ x) × (r < 256) ⌝ }
+{
+    x as usize
+}
+
+pub(crate) fn word(x: u8) -> u32
+    ensures { λ r. ⌜ (r ≡ x) × (r < 256) ⌝ }
+{
+    x as u32
+}
+
+pub(crate) fn long(x: u16) -> u32
+    ensures { λ r. ⌜ (r ≡ x) × (r < 65536) ⌝ }
+{
+    x as u32
+}

@@ -1,0 +1,174 @@
+// Whether a state is sound on an accepted sheet.
+
+ghost use mathlib.Core.Path.{_≡_};
+ghost use mathlib.Core.Bool.{_&&_};
+ghost use Prim.Native.Nat.{_≤_};
+ghost use lib.Dec.{eqb, ltb};
+ghost use lib.ListN.{getD, take, drop};
+ghost use Rattle.sheet.specs.Table.{every};
+ghost use Rattle.sheet.specs.Decode.{sheetOf};
+ghost use Rattle.sheet.specs.Reading.{reading, sheetLayout};
+ghost use Rattle.step.specs.Lists.{beside};
+ghost use Rattle.step.specs.Padding.{clear};
+ghost use Rattle.monitor.specs.Sound.{rising, callSound};
+ghost use Rattle.monitor.specs.Padded.{shown, isZeroArms, tidyArms, soundState};
+ghost use Rattle.monitor.specs.Walk.{tablesOf, tripleAt};
+use crate::Arms;
+use crate::WatchState;
+use crate::event::Tables;
+use crate::event::long;
+use crate::event::wide;
+use crate::event::word;
+use step::Call;
+
+pub(crate) fn sound(s: &[u8], t: Tables, state: WatchState) -> bool
+    requires { ⌜ (reading sheetLayout (now s) ≡ 0) × (t ≡ tablesOf (now s)) ⌝ }
+    ensures { λ r. ⌜ r ≡ soundState (sheetOf (now (s .entry))) state ⌝ }
+{
+    let h = t.header;
+    let opened = wide(state.opened);
+    let variables = state.variables;
+    let outcome = state.outcome;
+    let tidy = step::rows::clear_from(&variables, wide(h.monitors))
+        & (step::rows::kept_clear(state.calls, wide(h.programs))
+            & (arms_tidy(state.arms)
+                & (step::rows::calls_clear(state.calls, opened) & arms_clear(state.arms, opened))));
+    let calls = step::rows::numbers_distinct(state.calls, opened)
+        & calls_sound(s, t, state.calls, state.arms, opened);
+    let rest = step::outcomes::outcome_fits(h.bad, h.last, state.main, state.position, outcome);
+    (opened <= 16) & (tidy & ((state.main < h.states) & (calls & rest)))
+}
+
+// Whether at most four triples are armed for each call, with zeros behind them.
+fn arms_tidy(arms: [Arms; 16]) -> bool
+    ensures { λ r. ⌜ r ≡ every tidyArms arms ⌝ }
+{
+    let mut i = 0;
+    while i < 16 {
+        let a = arms[i];
+        let count = wide(a.count);
+        if (count <= 4) & triples_clear(a.triples, count) {} else {
+            return false;
+        }
+        i += 1;
+    }
+    true
+}
+
+// Whether nothing is armed from a place on.
+fn arms_clear(arms: [Arms; 16], from: usize) -> bool
+    ensures { λ r. ⌜ r ≡ every isZeroArms (drop from arms) ⌝ }
+{
+    let mut i = from;
+    while i < 16 {
+        let a = arms[i];
+        if (a.count == 0) & triples_clear(a.triples, 0) {} else {
+            return false;
+        }
+        i += 1;
+    }
+    true
+}
+
+// Whether all of four numbers from a place on are zero.
+fn triples_clear(triples: [u8; 4], from: usize) -> bool
+    ensures { λ r. ⌜ r ≡ clear from triples ⌝ }
+{
+    let mut i = from;
+    while i < 4 {
+        if triples[i] == 0 {} else {
+            return false;
+        }
+        i += 1;
+    }
+    true
+}
+
+// Whether each of the first `opened` calls is sound with what is armed for it.
+fn calls_sound(s: &[u8], t: Tables, calls: [Call; 16], arms: [Arms; 16], opened: usize) -> bool
+    requires { ⌜ (reading sheetLayout (now s) ≡ 0) × (t ≡ tablesOf (now s)) ⌝ }
+    ensures { λ r. ⌜ r ≡ every (callSound (sheetOf (now (s .entry)))) (beside (shown (t .header .programs)) (take opened calls) (take opened arms)) ⌝ }
+{
+    let mut i = 0;
+    while i < opened {
+        if i < 16 {
+            if call_sound(s, t, calls[i], arms[i]) {} else {
+                return false;
+            }
+        } else {
+            return true;
+        }
+        i += 1;
+    }
+    true
+}
+
+fn call_sound(s: &[u8], t: Tables, call: Call, arms: Arms) -> bool
+    requires { ⌜ (reading sheetLayout (now s) ≡ 0) × (t ≡ tablesOf (now s)) ⌝ }
+    ensures { λ r. ⌜ r ≡ callSound (sheetOf (now (s .entry))) (shown (t .header .programs) call arms) ⌝ }
+{
+    let h = t.header;
+    let count = wide(arms.count);
+    (call.unit < h.units)
+        & (rising(arms.triples, count)
+            & (of_unit(s, t.triples, h.last, arms.triples, count, call.unit)
+                & of_one_state(s, t.triples, arms.triples, count)))
+}
+
+// Whether the first `count` of four numbers rise.
+fn rising(triples: [u8; 4], count: usize) -> bool
+    ensures { λ r. ⌜ r ≡ rising (take count triples) ⌝ }
+{
+    let mut i = 1;
+    while i < count {
+        if i < 4 {
+            if triples[i - 1] < triples[i] {} else {
+                return false;
+            }
+        } else {
+            return true;
+        }
+        i += 1;
+    }
+    true
+}
+
+// Whether the first `count` of four numbers are those of triples, of a unit.
+fn of_unit(s: &[u8], at: u16, n: u8, triples: [u8; 4], count: usize, unit: u8) -> bool
+    ensures { λ r. ⌜ r ≡ every (λ i. ltb i n && eqb (tripleAt (now (s .entry)) at i .unit) unit) (take count triples) ⌝ }
+{
+    let mut i = 0;
+    while i < count {
+        if i < 4 {
+            let k = triples[i];
+            let t = sheet::triple_at(s, long(at) + 4 * word(k));
+            if (k < n) & (t.unit == unit) {} else {
+                return false;
+            }
+        } else {
+            return true;
+        }
+        i += 1;
+    }
+    true
+}
+
+// Whether the triples of the first `count` of four numbers are of one state, that of the first.
+fn of_one_state(s: &[u8], at: u16, triples: [u8; 4], count: usize) -> bool
+    ensures { λ r. ⌜ r ≡ every (λ i. eqb (tripleAt (now (s .entry)) at i .state) (tripleAt (now (s .entry)) at (getD triples 0 0) .state)) (take count triples) ⌝ }
+{
+    let first = sheet::triple_at(s, long(at) + 4 * word(triples[0]));
+    let mut i = 0;
+    while i < count {
+        if i < 4 {
+            let t = sheet::triple_at(s, long(at) + 4 * word(triples[i]));
+            if t.state == first.state {} else {
+                return false;
+            }
+        } else {
+            return true;
+        }
+        i += 1;
+    }
+    true
+}
