@@ -21,14 +21,14 @@ use Rattle.sheet.specs.Log.{Event}
 use Rattle.sheet.proofs.Accepted.{Accepted, bounds, sheet-transition}
 use Rattle.sheet.proofs.Tables.{and-parts, and-both, every-append}
 use Rattle.sheet.proofs.Tests.{and-iff, leb-iff, eqb-iff, not-iff}
-use Rattle.step.specs.Lists.{first, keep, any, least}
+use Rattle.step.specs.Lists.{first, keep, any, least, distinct}
 use Rattle.step.specs.Meets.{acted, performedBy}
 use Rattle.step.specs.Moves.{Configuration, seen, enabled, after, moved}
 use Rattle.step.specs.Calls.{Call, isEntry}
-use Rattle.step.specs.Verdicts.{causeOf, placed, verdict}
+use Rattle.step.specs.Verdicts.{causeOf, placed, verdict, ifThere}
 use Rattle.step.proofs.Lists.{Among, any-map, first-passes, kept-passes, least-some}
 use Rattle.monitor.specs.Monitor.{Armed, State, fresh, tripleIn, fails, failing, ofNumber, armedBy, entered, exited, refusal, offered, offer}
-use Rattle.monitor.specs.Sound.{distinct, callSound, ifThere, verdictSound, sound}
+use Rattle.monitor.specs.Sound.{callSound, verdictSound, sound}
 use Rattle.monitor.proofs.Calls.{Taken, begun, more, free}
 use Rattle.monitor.proofs.Arming.{among-every, armed-of, armed-rising, armed-one-state, armed-few}
 

@@ -25,11 +25,11 @@ abbrev pub tablesOf : List ℕ → Tables
 tablesOf s = record { header = headerOf s; transitions = transitionsAt s; triples = lastAt transitionForm s }
 
 -- An accepted sheet, with its tables and indexes.
-pub record Prepared (s : List ℕ) (t : Tables) (conditions actions : List ℕ) : Type 0 where
+pub record Prepared (s : List ℕ) (t : Tables) (c a : List ℕ) : Type 0 where
   pub accepted : reading sheetLayout s ≡ 0
   pub tables : t ≡ tablesOf s
-  pub conditions : conditions ≡ placesOf sheetLayout s .conditions
-  pub actions : actions ≡ placesOf sheetLayout s .actions
+  pub conditions : c ≡ placesOf sheetLayout s .conditions
+  pub actions : a ≡ placesOf sheetLayout s .actions
 
 -- A sound state.
 pub record Ready (s : List ℕ) (w : WatchState) : Type 0 where

@@ -48,12 +48,13 @@ pub(crate) fn refusal(
 {
     let h = t.header;
     let outcome = state.outcome;
+    let calls = state.calls;
     step::refusal(
         h.units,
         h.programs,
         is_judged(outcome),
         state.position,
-        state.calls,
+        calls,
         wide(state.opened),
         event,
         values,
@@ -103,13 +104,16 @@ fn entered(
     ensures { λ r. ⌜ r ≡ pad (Monitor.entered (sheetOf (now (s .entry))) (view (sheetOf (now (s .entry))) state) (eventOf event (now (values .entry)))) ⌝ }
 {
     let h = t.header;
+    let variables = state.variables;
+    let calls = state.calls;
+    let row = state.arms;
     let moved = moved(
         s,
         t,
         conditions,
         actions,
         state.main,
-        state.variables,
+        variables,
         event,
         values,
     );
@@ -133,8 +137,8 @@ fn entered(
         main: moved.main,
         variables: moved.variables,
         opened: state.opened + 1,
-        calls: step::rows::with_call(state.calls, opened, call),
-        arms: with_arms(state.arms, opened, arms),
+        calls: step::rows::with_call(calls, opened, call),
+        arms: with_arms(row, opened, arms),
         position,
         outcome: step::outcomes::outcome(h.bad, position, moved.main, 256),
     }
@@ -154,26 +158,29 @@ fn exited(
     ensures { λ r. ⌜ r ≡ pad (Monitor.exited (sheetOf (now (s .entry))) (view (sheetOf (now (s .entry))) state) (eventOf event (now (values .entry)))) ⌝ }
 {
     let h = t.header;
+    let variables = state.variables;
+    let calls = state.calls;
+    let row = state.arms;
     let moved = moved(
         s,
         t,
         conditions,
         actions,
         state.main,
-        state.variables,
+        variables,
         event,
         values,
     );
     let opened = wide(state.opened);
-    let place = step::call_place(state.calls, opened, event.number);
-    let low = judged(s, t, conditions, state.calls, state.arms, place, values);
+    let place = step::call_place(calls, opened, event.number);
+    let low = judged(s, t, conditions, calls, row, place, values);
     let position = state.position + 1;
     WatchState {
         main: moved.main,
         variables: moved.variables,
         opened: state.opened - 1,
-        calls: step::rows::without_call(state.calls, opened, event.number),
-        arms: without_arms(state.calls, state.arms, opened, event.number),
+        calls: step::rows::without_call(calls, opened, event.number),
+        arms: without_arms(calls, row, opened, event.number),
         position,
         outcome: step::outcomes::outcome(h.bad, position, moved.main, low),
     }

@@ -29,14 +29,15 @@ pub(crate) fn sound(s: &[u8], t: Tables, state: WatchState) -> bool
     let opened = wide(state.opened);
     let variables = state.variables;
     let outcome = state.outcome;
+    let calls = state.calls;
+    let arms = state.arms;
     let tidy = step::rows::clear_from(&variables, wide(h.monitors))
-        & (step::rows::kept_clear(state.calls, wide(h.programs))
-            & (arms_tidy(state.arms)
-                & (step::rows::calls_clear(state.calls, opened) & arms_clear(state.arms, opened))));
-    let calls = step::rows::numbers_distinct(state.calls, opened)
-        & calls_sound(s, t, state.calls, state.arms, opened);
+        & (step::rows::kept_clear(calls, wide(h.programs))
+            & (arms_tidy(arms)
+                & (step::rows::calls_clear(calls, opened) & arms_clear(arms, opened))));
+    let row = step::rows::numbers_distinct(calls, opened) & calls_sound(s, t, calls, arms, opened);
     let rest = step::outcomes::outcome_fits(h.bad, h.last, state.main, state.position, outcome);
-    (opened <= 16) & (tidy & ((state.main < h.states) & (calls & rest)))
+    (opened <= 16) & (tidy & ((state.main < h.states) & (row & rest)))
 }
 
 // Whether at most four triples are armed for each call, with zeros behind them.
@@ -47,7 +48,8 @@ fn arms_tidy(arms: [Arms; 16]) -> bool
     while i < 16 {
         let a = arms[i];
         let count = wide(a.count);
-        if (count <= 4) & triples_clear(a.triples, count) {} else {
+        let triples = a.triples;
+        if (count <= 4) & triples_clear(triples, count) {} else {
             return false;
         }
         i += 1;
@@ -62,7 +64,8 @@ fn arms_clear(arms: [Arms; 16], from: usize) -> bool
     let mut i = from;
     while i < 16 {
         let a = arms[i];
-        if (a.count == 0) & triples_clear(a.triples, 0) {} else {
+        let triples = a.triples;
+        if (a.count == 0) & triples_clear(triples, 0) {} else {
             return false;
         }
         i += 1;
@@ -109,10 +112,11 @@ fn call_sound(s: &[u8], t: Tables, call: Call, arms: Arms) -> bool
 {
     let h = t.header;
     let count = wide(arms.count);
+    let triples = arms.triples;
     (call.unit < h.units)
-        & (rising(arms.triples, count)
-            & (of_unit(s, t.triples, h.last, arms.triples, count, call.unit)
-                & of_one_state(s, t.triples, arms.triples, count)))
+        & (rising(triples, count)
+            & (of_unit(s, t.triples, h.last, triples, count, call.unit)
+                & of_one_state(s, t.triples, triples, count)))
 }
 
 // Whether the first `count` of four numbers rise.
