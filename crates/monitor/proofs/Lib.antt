@@ -8,5 +8,6 @@ pub mod Acceptance
 pub mod Exclusive
 pub mod Rows
 pub mod Starting
+pub mod Triples
 pub mod Arming
 pub mod Soundness
