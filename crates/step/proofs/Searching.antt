@@ -104,6 +104,15 @@ module _ {A : Type 0} (p : A → Bool) (l : List A) where
     unfolding placeOf
     passed-more e = record { same = rw (add-one i) (omega (arith, rw (drop-cons l i d h, e) at (g .same))); low = omega arith }
 
+pub place-low : {A : Type 0} (p : A → Bool) (l : List A) → placeOf p l ≤ length l
+unfolding placeOf
+place-low p [] = omega arith
+place-low p (x ∷ l) = go (p x) (place-low p l)
+  where
+    go : (b : Bool) → placeOf p l ≤ length l → cond b 0 (suc (placeOf p l)) ≤ suc (length l)
+    go true h = omega arith
+    go false h = omega arith
+
 -- there is one exactly if its place is within the list
 pub any-place : {A : Type 0} (p : A → Bool) (l : List A) → any p l ≡ ltb (placeOf p l) (length l)
 unfolding any placeOf
