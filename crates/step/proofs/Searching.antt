@@ -1,4 +1,4 @@
--- Looking for the first transition that can be taken. Assumes nothing.
+-- Looking for the first transition that can be taken, and taking it. Assumes nothing.
 use mathlib.Core.Path.{_≡_, refl, sym, ap, _∙_}
 use mathlib.Core.Bool.{Bool, true, false, cond, _&&_}
 use mathlib.Core.List.{List, [], _∷_}
@@ -19,7 +19,6 @@ use Rattle.sheet.specs.Decode.{textForm, transitionOf}
 use Rattle.step.specs.declared.Key.{Key}
 use Rattle.step.specs.declared.Found.{Found}
 use Rattle.step.specs.declared.Found.the-variants.{At, Nothing}
-use Rattle.step.specs.declared.Moved.{Moved}
 use Rattle.step.specs.Lists.{any}
 use Rattle.step.specs.Walk.{trueOf, meetsAt, actedAt, placeOf, enabledAt, firstPlace, movedAt}
 
@@ -104,6 +103,7 @@ module _ {A : Type 0} (p : A → Bool) (l : List A) where
     unfolding placeOf
     passed-more e = record { same = rw (add-one i) (omega (arith, rw (drop-cons l i d h, e) at (g .same))); low = omega arith }
 
+-- a place is at most the length
 pub place-low : {A : Type 0} (p : A → Bool) (l : List A) → placeOf p l ≤ length l
 unfolding placeOf
 place-low p [] = omega arith

@@ -35,7 +35,7 @@ module _ {A : Type 0} (p : A → Bool) (l : List A) (i : ℕ) where
     pub every-fails : (d : A) → i < length l → p (getD l i d) ≡ false → false ≡ b
     every-fails d h t = rw (every-here d h, t) at g
 
--- Numbers that are all different: one more of them, and those in front of others.
+-- a test on some element of joined lists
 pub any-append : {A : Type 0} (p : A → Bool) (l m : List A) → any p (l ++ m) ≡ cond (any p l) true (any p m)
 unfolding any
 any-append p [] m = refl
@@ -45,6 +45,7 @@ any-append p (x ∷ l) m = go (p x) (any-append p l m)
     go true h = refl
     go false h = h
 
+-- Numbers that are all different: one more of them, and those in front of others.
 pub distinct-snoc : (l : List ℕ) (n : ℕ) → distinct (l ++ n ∷ []) ≡ (distinct l && not (any (λ m. eqb m n) l))
 unfolding distinct any
 distinct-snoc [] n = refl
