@@ -85,15 +85,28 @@ pub fn clear_from(values: &[u32], from: usize) -> bool
     true
 }
 
+// Whether a call keeps zeros from a value's number on.
+fn keeps_clear(call: Call, from: usize) -> bool
+    ensures { λ r. ⌜ r ≡ clear from (call .kept) ⌝ }
+{
+    clear_from(&call.kept, from)
+}
+
+// Whether it is the place of no call.
+fn is_no_call(call: Call) -> bool
+    ensures { λ r. ⌜ r ≡ isZeroCall call ⌝ }
+{
+    let clear = keeps_clear(call, 0);
+    (call.number == 0) & ((call.unit == 0) & clear)
+}
+
 // Whether every call keeps zeros from a value's number on.
 pub fn kept_clear(calls: [Call; 16], from: usize) -> bool
     ensures { λ r. ⌜ r ≡ every (λ c. padded 8 from (c .kept)) calls ⌝ }
 {
     let mut i = 0;
     while i < 16 {
-        let c = calls[i];
-        let kept = c.kept;
-        if clear_from(&kept, from) {} else {
+        if keeps_clear(calls[i], from) {} else {
             return false;
         }
         i += 1;
@@ -107,9 +120,7 @@ pub fn calls_clear(calls: [Call; 16], from: usize) -> bool
 {
     let mut i = from;
     while i < 16 {
-        let c = calls[i];
-        let kept = c.kept;
-        if (c.number == 0) & ((c.unit == 0) & clear_from(&kept, 0)) {} else {
+        if is_no_call(calls[i]) {} else {
             return false;
         }
         i += 1;
