@@ -5,13 +5,14 @@ use mathlib.Core.List.{List, [], _∷_, _++_, map, map-append}
 use Prim.Native.Nat.{ℕ, suc, _+_, _≤_, _<_}
 use native.Mathlib.Numerals.{add-one}
 use native.Mathlib.Omega.{arith}
-use borrow.Author.Tests.{lt-ltb, le-ltb}
+use borrow.Author.Tests.{lt-ltb, le-ltb, eq-eqb}
 use lib.Dec.{eqb, ltb}
 use lib.ListN.{length, getD, take, drop, drop-of-length-le, take-append-drop, length-take}
 use lib.Seq.{drop-cons, take-suc, take-all, take-take, getD-take, length-take-le}
 use Rattle.sheet.specs.Table.{every}
 use Rattle.step.specs.Lists.{any, distinct}
 use Rattle.step.specs.Walk.{placeOf}
+use Rattle.step.specs.Padding.{clear, padded}
 use Rattle.step.proofs.Lists.{any-map}
 use Rattle.step.proofs.Searching.{any-place, place-low}
 
@@ -107,3 +108,7 @@ module _ {A : Type 0} (f : A → ℕ) (row : List A) (opened i : ℕ) (g : disti
         let low = place-low (λ x. eqb (f x) (f (getD row i d))) (take i row) in
         let long = length-take-le i row (omega arith) in
         distinct-fails f (take opened row) i g d there (found true (lt-ltb place i (omega arith)))
+
+-- An array whose places are zeros from one on, by what a test of them answers.
+pub padded-is : (size n : ℕ) (l : List ℕ) (r b : Bool) → (r ≡ clear n l) × (length l ≡ size) → r ≡ b → padded size n l ≡ b
+padded-is size n l r b f e = rw (f .1, ← f .0, eq-eqb size size refl) e

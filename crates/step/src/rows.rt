@@ -4,7 +4,7 @@ ghost use mathlib.Core.Path.{_≡_};
 ghost use mathlib.Core.Bool.{not};
 ghost use mathlib.Core.List.{map};
 ghost use lib.Dec.{eqb};
-ghost use lib.ListN.{set, take, drop};
+ghost use lib.ListN.{length, set, take, drop};
 ghost use Rattle.sheet.specs.Table.{every, fit};
 ghost use Rattle.step.specs.Lists.{keep, distinct};
 ghost use Rattle.step.specs.Padding.{zeroCall, clear, padded, isZeroCall};
@@ -87,7 +87,7 @@ pub fn clear_from(values: &[u32], from: usize) -> bool
 
 // Whether a call keeps zeros from a value's number on.
 fn keeps_clear(call: Call, from: usize) -> bool
-    ensures { λ r. ⌜ r ≡ clear from (call .kept) ⌝ }
+    ensures { λ r. ⌜ (r ≡ clear from (call .kept)) × (length (call .kept) ≡ 8) ⌝ }
 {
     clear_from(&call.kept, from)
 }
