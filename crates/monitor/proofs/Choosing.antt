@@ -40,6 +40,9 @@ pub record Choosing {A : Type 0} (p : A → Bool) (F : Form A) (n : ℕ) (s : Li
   pub low : count ≤ i
   pub there : place ≡ at + 4 * i
 
+abbrev armsOf : ℕ → List ℕ → Arms
+armsOf count out = record { count = count; triples = out }
+
 module _ {A : Type 0} (p : A → Bool) (F : Form A) (n : ℕ) (s : List ℕ) (at : ℕ) where
   whole : List ℕ
   whole = numbers p 0 (table F n s at)
@@ -85,7 +88,7 @@ module _ {A : Type 0} (p : A → Bool) (F : Form A) (n : ℕ) (s : List ℕ) (at
         let away : numbers p i (table F (n - i) s place) ≡ rest = rw (left, table-step F (n - (i + 1)) s place, t, sized (drop place s)) in
         record { fill = rw (add-one i) (rw away at (g .fill)); many = rw (add-one i) (rw away at (g .many)); few = omega arith; low = omega (arith, g .low); there = omega (arith, g .there) }
 
-  pub choosing-end : (out : List ℕ) (count i place : ℕ) → Choosing p F n s at out count i place → n ≤ i → (record { count = count; triples = out } : Arms) ≡ padArms (numbers p 0 (table F n s at))
+  pub choosing-end : (out : List ℕ) (count i place : ℕ) → Choosing p F n s at out count i place → n ≤ i → armsOf count out ≡ padArms (numbers p 0 (table F n s at))
   unfolding numbers
   choosing-end out count i place g h =
       let none : n - i ≡ 0 = omega arith in

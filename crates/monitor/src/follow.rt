@@ -1,6 +1,7 @@
 // Offering an event and running a log, on an accepted sheet.
 
 ghost use mathlib.Core.Path.{_≡_};
+ghost use mathlib.Core.Bool.{true};
 ghost use Prim.Native.Nat.{_<_};
 ghost use Rattle.sheet.specs.Bytes.{byte};
 ghost use Rattle.sheet.specs.Decode.{sheetOf};
