@@ -10,5 +10,6 @@ pub mod Rows
 pub mod Starting
 pub mod Triples
 pub mod Choosing
+pub mod Beside
 pub mod Arming
 pub mod Soundness
