@@ -12,3 +12,4 @@ pub mod Triples
 pub mod Choosing
 pub mod Arming
 pub mod Soundness
+pub mod Moving
