@@ -11,3 +11,4 @@ pub mod Starting
 pub mod Triples
 pub mod Arming
 pub mod Soundness
+pub mod Views
