@@ -9,6 +9,7 @@ pub mod Exclusive
 pub mod Rows
 pub mod Starting
 pub mod Triples
+pub mod Choosing
 pub mod Arming
 pub mod Soundness
 pub mod Views

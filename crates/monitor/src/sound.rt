@@ -14,11 +14,31 @@ ghost use Rattle.monitor.specs.Sound.{rising, callSound};
 ghost use Rattle.monitor.specs.Padded.{shown, isZeroArms, tidyArms, soundState};
 ghost use Rattle.monitor.specs.Walk.{tablesOf, tripleAt};
 use crate::Arms;
+use crate::WatchState;
 use crate::event::Tables;
 use crate::event::long;
 use crate::event::wide;
 use crate::event::word;
 use step::Call;
+
+pub(crate) fn sound(s: &[u8], t: Tables, state: WatchState) -> bool
+    requires { ⌜ (reading sheetLayout (now s) ≡ 0) × (t ≡ tablesOf (now s)) ⌝ }
+    ensures { λ r. ⌜ r ≡ soundState (sheetOf (now (s .entry))) state ⌝ }
+{
+    let h = t.header;
+    let opened = wide(state.opened);
+    let variables = state.variables;
+    let outcome = state.outcome;
+    let calls = state.calls;
+    let arms = state.arms;
+    let tidy = step::rows::clear_from(&variables, wide(h.monitors))
+        & (step::rows::kept_clear(calls, wide(h.programs))
+            & (arms_tidy(arms)
+                & (step::rows::calls_clear(calls, opened) & arms_clear(arms, opened))));
+    let row = step::rows::numbers_distinct(calls, opened) & calls_sound(s, t, calls, arms, opened);
+    let rest = step::outcomes::outcome_fits(h.bad, h.last, state.main, state.position, outcome);
+    (opened <= 16) & (tidy & ((state.main < h.states) & (row & rest)))
+}
 
 // Whether at most four triples are armed for each call, with zeros behind them.
 fn arms_tidy(arms: [Arms; 16]) -> bool
