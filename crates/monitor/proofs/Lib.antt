@@ -13,3 +13,4 @@ pub mod Choosing
 pub mod Arming
 pub mod Soundness
 pub mod Views
+pub mod Testing
