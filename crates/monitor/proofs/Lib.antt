@@ -14,3 +14,5 @@ pub mod Beside
 pub mod Arming
 pub mod Soundness
 pub mod Moving
+pub mod Views
+pub mod Testing
