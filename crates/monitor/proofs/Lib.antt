@@ -15,4 +15,6 @@ pub mod Arming
 pub mod Soundness
 pub mod Moving
 pub mod Views
+pub mod Entering
+pub mod Answering
 pub mod Testing
