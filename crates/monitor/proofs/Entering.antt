@@ -1,6 +1,6 @@
 -- An entry that is taken: what its parts answer is the padded form of the definition's state. Assumes nothing.
 use mathlib.Core.Path.{_≡_, refl, sym, ap, subst, _∙_}
-use mathlib.Core.Bool.{Bool, true, false, _&&_}
+use mathlib.Core.Bool.{Bool, true, false, cond, _&&_}
 use mathlib.Core.Option.{none}
 use mathlib.Core.List.{List, [], _∷_, _++_, map, map-append}
 use Prim.Native.Nat.{ℕ, zero, suc, _+_, _≤_, _<_}
@@ -24,7 +24,7 @@ use Rattle.step.specs.declared.Moved.{Moved}
 use Rattle.step.specs.declared.Outcome.{Outcome}
 use Rattle.step.specs.Lists.{numbers}
 use Rattle.step.specs.Moves.{Configuration}
-use Rattle.step.specs.Calls.{isEntry}
+use Rattle.step.specs.Calls.{isEntry, lastPosition}
 use Rattle.step.specs.Verdicts.{verdict, verdictFor, outcomeOf}
 use Rattle.step.specs.Padding.{zeroCall, padCall}
 use Rattle.step.specs.Walk.{eventOf, numberIn}
@@ -98,6 +98,10 @@ module _ {s : List ℕ} {t : Tables} {c i : List ℕ} (p : Prepared s t c i) (w 
   unfolding sheetOf commonOf
   values-all = unrefused .values
 
+  pub position-next : (n : ℕ) → n ≡ cond (eqb (w .position) lastPosition) (w .position) (w .position + 1) → n ≡ w .position + 1
+  unfolding view
+  position-next n e = rw (unrefused .notLast) at e
+
   abbrev to : Configuration
   to = movedFrom s (w .main) (w .variables) (eventOf event values)
 
@@ -115,20 +119,32 @@ module _ {s : List ℕ} {t : Tables} {c i : List ℕ} (p : Prepared s t c i) (w 
       let back : fit 4 0 x ≡ w .variables = ap (λ (u : WatchState). u .variables) (r .padded) in
       subst (λ l. to .variables ++ drop (commonOf s .monitors) l ≡ fit 4 0 (to .variables)) back (subst (λ n. to .variables ++ drop n (fit 4 0 x) ≡ fit 4 0 (to .variables)) v e)
 
+  has-room : event .kind ≡ 0 → length (view (sheetOf s) w .calls) < 16
+  has-room entry =
+      let calls = view (sheetOf s) w .calls in
+      let short = leb-false 16 (length (map (λ (x : Armed). x .call) calls)) (rw (eq-eqb (event .kind) 0 entry) at (unrefused .room)) in
+      omega (arith, length-map calls (λ (x : Armed). x .call))
+
+  pub opened-room : event .kind ≡ 0 → w .opened < 16
+  unfolding pad
+  opened-room entry =
+      let opened : length (view (sheetOf s) w .calls) ≡ w .opened = ap (λ (u : WatchState). u .opened) (r .padded) in
+      omega (arith, has-room entry)
+
   pub entered-there : event .kind ≡ 0 → (m : Moved) → m ≡ movedTo s (w .main) (w .variables) (eventOf event values)
       → (b : Arms) → b ≡ padArms (numbers (armsAt s c (w .main) (event .unit) (environment values [] [])) 0 (table tripleForm (t .header .last) s (t .triples)))
       → (n : ℕ) → n ≡ w .opened → (k : List ℕ) → k ≡ fit 8 0 values → (calls : List Call) → calls ≡ set (w .calls) n (record { number = event .number; unit = event .unit; kept = k })
-      → (row : List Arms) → row ≡ set (w .arms) n b → (o : Outcome) → o ≡ outcomeOf (verdictFor (t .header .bad) (w .position + 1) (m .main) (numberIn 256))
-      → stateOf (m .main) (m .variables) (w .opened + 1) calls row (w .position + 1) o ≡ pad (entered (sheetOf s) (view (sheetOf s) w) (eventOf event values))
+      → (row : List Arms) → row ≡ set (w .arms) n b → (q : ℕ) → q ≡ cond (eqb (w .position) lastPosition) (w .position) (w .position + 1) → (o : Outcome) → o ≡ outcomeOf (verdictFor (t .header .bad) q (m .main) (numberIn 256))
+      → stateOf (m .main) (m .variables) (w .opened + 1) calls row q o ≡ pad (entered (sheetOf s) (view (sheetOf s) w) (eventOf event values))
   unfolding entered view pad sheetOf commonOf verdict
-  entered-there entry m em b eb n en k ek calls ec row er o eo =
+  entered-there entry m em b eb n en k ek calls ec row er q eq o eo =
       let e = eventOf event values in
       let σ = view (sheetOf s) w in
       let new : Armed = record { call = record { number = event .number; unit = event .unit; kept = values }; armed = armedBy (sheetOf s) (σ .configuration) e } in
-      let short = leb-false 16 (length (map (λ (x : Armed). x .call) (σ .calls))) (rw (eq-eqb (event .kind) 0 entry) at (unrefused .room)) in
-      let room : length (σ .calls) < 16 = omega (arith, length-map (σ .calls) (λ (x : Armed). x .call)) in
+      let room = has-room entry in
       let opened : length (σ .calls) ≡ w .opened = ap (λ (u : WatchState). u .opened) (r .padded) in
       let main = ap (λ (x : Moved). x .main) em in
+      let position = position-next q eq in
       let variables = ap (λ (x : Moved). x .variables) em ∙ variables-moved in
       let armed : b ≡ padArms (armedBy (sheetOf s) (σ .configuration) e) = eb ∙ rw (p .tables, p .conditions) (ap padArms (armed-same there (σ .configuration) e values-all)) in
       let kept : callOf (event .number) (event .unit) k ≡ padCall (new .call) = rw ek in
@@ -136,5 +152,5 @@ module _ {s : List ℕ} {t : Tables} {c i : List ℕ} (p : Prepared s t c i) (w 
       let longer : w .opened + 1 ≡ length (σ .calls ++ new ∷ []) = omega arith in
       let row-calls = ec ∙ row-more (λ (x : Armed). padCall (x .call)) zeroCall 16 (w .calls) (σ .calls) new n _ (ap (λ (u : WatchState). u .calls) (r .padded)) (en ∙ sym opened) room kept in
       let row-arms = er ∙ row-more (λ (x : Armed). padArms (x .armed)) zeroArms 16 (w .arms) (σ .calls) new n b (ap (λ (u : WatchState). u .arms) (r .padded)) (en ∙ sym opened) room armed in
-      let judged : o ≡ outcomeOf (verdict (commonOf s) (w .position + 1) (to .main) none) = eo ∙ rw (main, p .tables) in
-      λ j. stateOf (main j) (variables j) (longer j) (row-calls j) (row-arms j) (w .position + 1) (judged j)
+      let judged : o ≡ outcomeOf (verdict (commonOf s) (w .position + 1) (to .main) none) = eo ∙ rw (main, position, p .tables) in
+      λ j. stateOf (main j) (variables j) (longer j) (row-calls j) (row-arms j) (position j) (judged j)

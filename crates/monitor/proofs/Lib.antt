@@ -17,4 +17,5 @@ pub mod Moving
 pub mod Views
 pub mod Entering
 pub mod Answering
+pub mod Following
 pub mod Testing
