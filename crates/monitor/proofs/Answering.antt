@@ -63,9 +63,9 @@ isRefused (Refused n) = true
 abbrev offeredWith : Answer → WatchState → Offered
 offeredWith a w = record { answer = a; state = w }
 
-refused-with : (n : ℕ) → (n ≡ 0 → ⊥) → {w τ : WatchState} → offeredWith (offer.Refused n) w ≡ offeredWith (answerOf n) (whenTaken n w τ)
-refused-with zero k = absurd (k refl)
-refused-with (suc n) k = refl
+refused-with : (n : ℕ) → (n ≡ 0 → ⊥) → (w τ : WatchState) → offeredWith (offer.Refused n) w ≡ offeredWith (answerOf n) (whenTaken n w τ)
+refused-with zero k w τ = absurd (k refl)
+refused-with (suc n) k w τ = refl
 
 module _ (s : List ℕ) (w : WatchState) (event : Record) (values : List ℕ) where
   module _ (a : reading sheetLayout s ≡ 0) where
@@ -80,7 +80,7 @@ module _ (s : List ℕ) (w : WatchState) (event : Record) (values : List ℕ) wh
 
       pub offer-refuses : (n ≡ 0 → ⊥) → offeredWith (offer.Refused n) w ≡ offerOf s w (eventOf event values)
       unfolding offerOf offerRefusal
-      offer-refuses k = rw (a, h, ← e) (refused-with n k)
+      offer-refuses k = rw (a, h, ← e) (refused-with n k w _)
 
 -- a sheet that is not read
 abbrev asOffered : Reading → Answer

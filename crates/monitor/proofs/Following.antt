@@ -4,7 +4,7 @@ use mathlib.Core.Bool.{Bool, true, false, cond}
 use mathlib.Core.Option.{Option, none, some}
 use mathlib.Core.List.{List, [], _∷_}
 use Prim.Native.Nat.{ℕ, zero, suc, _+_, _-_, _*_, _/_, _%_, _≤_, _<_}
-use native.Mathlib.Nat.{mul-suc}
+use native.Mathlib.Nat.{mul-suc, div-add-mod}
 use native.Mathlib.Numerals.{add-one}
 use native.Mathlib.Omega.{arith}
 use lib.ListN.{length, take, drop}
@@ -26,7 +26,7 @@ use Rattle.step.specs.declared.RunAnswer.the-variants.{Violated, Clean, Refused
 use Rattle.step.specs.Verdicts.{outcomeOf, verdictIn}
 use Rattle.step.specs.Walk.{eventOf}
 use Rattle.monitor.specs.declared.WatchState.{WatchState}
-use Rattle.monitor.specs.Monitor.{State, fresh, refusal, offered, offer, unlessJudged, unlessRefused, runFrom, run}
+use Rattle.monitor.specs.Monitor.{State, Ran, fresh, refusal, offered, offer, unlessJudged, unlessRefused, runFrom, run}
 use Rattle.monitor.specs.Sound.{sound}
 use Rattle.monitor.specs.Padded.{pad, view}
 use Rattle.monitor.specs.Answers.{ranAnswer}
@@ -46,11 +46,14 @@ pub log-length : (P : ℕ) (log : List ℕ) → logReading P log ≡ 0 → word 
 unfolding logReading
 log-length P log h = let ((a, (b, c)), rest) = simp (unless-iff, and-iff, eqb-iff) at h in b
 
+whole-length : (n m : ℕ) → 6 ≤ n → m + 0 ≡ n - 6 → 6 + m ≡ n
+whole-length n m h e = omega arith
+
 pub log-filled : (P : ℕ) (log : List ℕ) → logReading P log ≡ 0 → 6 + recordSize P * recordsIn P log ≡ length log
 unfolding logReading recordsIn
 log-filled P log h =
     let ((a, rest), (b, (c, z))) = simp (unless-iff, and-iff, leb-iff, eqb-iff) at h in
-    ?
+    whole-length (length log) (recordSize P * ((length log - 6) / recordSize P)) a (ap (λ k. recordSize P * ((length log - 6) / recordSize P) + k) (sym c) ∙ div-add-mod (length log - 6) (recordSize P))
 
 -- with `left` records to go from `at` on, the run is that of the whole log
 pub record Following (s log : List ℕ) (w : WatchState) (i at end : ℕ) : Type 0 where
@@ -66,7 +69,7 @@ module _ {s : List ℕ} (a : Accepted sheetLayout s) (log : List ℕ) where
   abbrev P : ℕ
   P = byte s 5
 
-  abbrev whole : _
+  abbrev whole : Ran
   whole = run (sheetOf s) (eventsOf P log)
 
   pub follow-start : logReading (byte s 5) log ≡ 0 → (w : WatchState) → w ≡ pad (fresh (sheetOf s)) → (end : ℕ) → end ≡ word log 0 → Following s log w 0 6 end
