@@ -1,18 +1,21 @@
 -- Loops that test the first elements of a row, and what the tests of a sound state come to. Assumes nothing.
-use mathlib.Core.Path.{_≡_, refl, sym, ap, _∙_}
+use mathlib.Core.Path.{_≡_, refl, sym, ap, ap₂, _∙_}
 use mathlib.Core.Bool.{Bool, true, false, _&&_, false≢true}
 use mathlib.Core.List.{List, [], _∷_}
-use Prim.Native.Nat.{ℕ, zero, suc, _+_, _-_, _≤_, _<_}
+use Prim.Native.Nat.{ℕ, zero, suc, _+_, _-_, _*_, _≤_, _<_}
 use native.Mathlib.Numerals.{add-one, sub-one}
 use native.Mathlib.Omega.{arith}
 use borrow.Author.Tests.{ltb-true, lt-ltb, le-ltb}
-use lib.Dec.{ltb}
+use lib.Dec.{eqb, ltb}
 use lib.ListN.{length, getD, take, drop, length-take, length-drop}
 use lib.Seq.{drop-cons, getD-take}
+use Rattle.sheet.specs.declared.Triple.{Triple}
 use Rattle.sheet.specs.Table.{every}
+use Rattle.sheet.specs.Decode.{tripleForm}
 use Rattle.sheet.proofs.Tables.{every-weaker}
 use Rattle.step.proofs.Turns.{every-end, every-next, every-fails}
 use Rattle.monitor.specs.Sound.{rising}
+use Rattle.monitor.specs.Walk.{tripleAt}
 
 -- Tests on the first `n` elements of a row, i of them seen; b is what they answer on the whole.
 module _ {A : Type 0} (p : A → Bool) (row : List A) (n i : ℕ) (b : Bool) (g : every p (drop i (take n row)) ≡ b) where
@@ -28,6 +31,14 @@ module _ {A : Type 0} (p : A → Bool) (row : List A) (n i : ℕ) (b : Bool) (g 
 
     pub part-fails : p (getD row i d) ≡ false → false ≡ b
     part-fails t = every-fails p (take n row) i b g d (omega (arith, length-take n row)) (rw (getD-take n row i d h) t)
+
+-- A triple that is read at its place, and the test of one.
+module _ (s : List ℕ) (at k a w : ℕ) (t : Triple) (e : (a ≡ at) × (a < 65536)) (f : (w ≡ k) × (w < 256)) (g : t ≡ tripleForm .value (drop (a + 4 * w) s)) where
+  pub triple-read : t ≡ tripleAt s at k
+  triple-read = g ∙ ap₂ (λ (x y : ℕ). tripleForm .value (drop (x + 4 * y) s)) (e .0) (f .0)
+
+  pub unit-is : (n unit : ℕ) (b : Bool) → (ltb k n && eqb (t .unit) unit) ≡ b → (ltb k n && eqb (tripleAt s at k .unit) unit) ≡ b
+  unit-is n unit b h = ap (λ (u : Triple). ltb k n && eqb (u .unit) unit) (sym triple-read) ∙ h
 
 -- Numbers rise if each is below the next.
 pub rising-pair : (x y : ℕ) (l : List ℕ) → rising (x ∷ y ∷ l) ≡ (ltb x y && rising (y ∷ l))

@@ -46,15 +46,21 @@ fn arms_tidy(arms: [Arms; 16]) -> bool
 {
     let mut i = 0;
     while i < 16 {
-        let a = arms[i];
-        let count = wide(a.count);
-        let triples = a.triples;
-        if (count <= 4) & triples_clear(triples, count) {} else {
+        if is_tidy(arms[i]) {} else {
             return false;
         }
         i += 1;
     }
     true
+}
+
+fn is_tidy(arms: Arms) -> bool
+    ensures { λ r. ⌜ r ≡ tidyArms arms ⌝ }
+{
+    let count = wide(arms.count);
+    let triples = arms.triples;
+    let clear = triples_clear(triples, count);
+    (count <= 4) & clear
 }
 
 // Whether nothing is armed from a place on.
