@@ -5,16 +5,19 @@ use mathlib.Core.List.{List, [], _∷_}
 use Prim.Native.Nat.{ℕ, zero, suc, _+_, _-_, _*_, _≤_, _<_}
 use native.Mathlib.Numerals.{add-one, sub-one}
 use native.Mathlib.Omega.{arith}
-use borrow.Author.Tests.{ltb-true, lt-ltb, le-ltb}
-use lib.Dec.{eqb, ltb}
+use borrow.Author.Tests.{ltb-true, lt-ltb, le-ltb, eq-eqb}
+use lib.Dec.{eqb, leb, ltb}
 use lib.ListN.{length, getD, take, drop, length-take, length-drop}
 use lib.Seq.{drop-cons, getD-take}
 use Rattle.sheet.specs.declared.Triple.{Triple}
 use Rattle.sheet.specs.Table.{every}
 use Rattle.sheet.specs.Decode.{tripleForm}
 use Rattle.sheet.proofs.Tables.{every-weaker}
+use Rattle.step.specs.Padding.{clear}
 use Rattle.step.proofs.Turns.{every-end, every-next, every-fails}
+use Rattle.monitor.specs.declared.Arms.{Arms}
 use Rattle.monitor.specs.Sound.{rising}
+use Rattle.monitor.specs.Padded.{tidyArms}
 use Rattle.monitor.specs.Walk.{tripleAt}
 
 -- Tests on the first `n` elements of a row, i of them seen; b is what they answer on the whole.
@@ -39,6 +42,13 @@ module _ (s : List ℕ) (at k a w : ℕ) (t : Triple) (e : (a ≡ at) × (a < 65
 
   pub unit-is : (n unit : ℕ) (b : Bool) → (ltb k n && eqb (t .unit) unit) ≡ b → (ltb k n && eqb (tripleAt s at k .unit) unit) ≡ b
   unit-is n unit b h = ap (λ (u : Triple). ltb k n && eqb (u .unit) unit) (sym triple-read) ∙ h
+
+  pub state-is : (j : ℕ) (u : Triple) → u ≡ tripleAt s at j → (b : Bool) → eqb (t .state) (u .state) ≡ b → eqb (tripleAt s at k .state) (tripleAt s at j .state) ≡ b
+  state-is j u r b h = ap₂ (λ (x y : Triple). eqb (x .state) (y .state)) (sym triple-read) (sym r) ∙ h
+
+-- What is armed for a call, by its count and what stands behind it.
+pub tidy-is : (a : Arms) (w : ℕ) (r : Bool) → (w ≡ a .count) × (w < 256) → r ≡ clear w (a .triples) → length (a .triples) ≡ 4 → (leb w 4 && r) ≡ tidyArms a
+tidy-is a w r e f l = rw (f, e .0, eq-eqb (length (a .triples)) 4 l)
 
 -- Numbers rise if each is below the next.
 pub rising-pair : (x y : ℕ) (l : List ℕ) → rising (x ∷ y ∷ l) ≡ (ltb x y && rising (y ∷ l))
