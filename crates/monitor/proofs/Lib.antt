@@ -14,3 +14,4 @@ pub mod Arming
 pub mod Soundness
 pub mod Views
 pub mod Testing
+pub mod Checks
