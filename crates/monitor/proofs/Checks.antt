@@ -49,16 +49,16 @@ module _ {s : List ℕ} (a : Accepted sheetLayout s) where
       ∙ first-same (λ i. tripleIn (sheetOf s) i .state) n l
 
 -- a call with what is armed for it
-pub call-is : (s : List ℕ) (t : Tables) → (reading sheetLayout s ≡ 0) × (t ≡ tablesOf s) → (call : Call) (arms : Arms) → length (call .kept) ≡ 8 → length (arms .triples) ≡ 4
-    → (w : ℕ) → (w ≡ arms .count) × (w < 256) → (r : Bool) → r ≡ rising (take w (arms .triples))
+pub call-is : (s : List ℕ) (t : Tables) → (reading sheetLayout s ≡ 0) × (t ≡ tablesOf s) → (call : Call) (arms : Arms) → length (arms .triples) ≡ 4
+    → (q : Bool) → (q ≡ ltb (call .unit) (t .header .units)) × (length (call .kept) ≡ 8) → (w : ℕ) → (w ≡ arms .count) × (w < 256) → (r : Bool) → r ≡ rising (take w (arms .triples))
     → (u : Bool) → u ≡ every (λ i. ltb i (t .header .last) && eqb (tripleAt s (t .triples) i .unit) (call .unit)) (take w (arms .triples))
     → (o : Bool) → o ≡ every (λ i. eqb (tripleAt s (t .triples) i .state) (tripleAt s (t .triples) (getD (arms .triples) 0 0) .state)) (take w (arms .triples))
-    → (ltb (call .unit) (t .header .units) && (r && (u && o))) ≡ callSound (sheetOf s) (shown (t .header .programs) call arms)
+    → (q && (r && (u && o))) ≡ callSound (sheetOf s) (shown (t .header .programs) call arms)
 unfolding callSound sheetOf commonOf
-call-is s t (h, e) call arms kept long w (f, g) r x u y o z =
+call-is s t (h, e) call arms long q (v, kept) w (f, g) r x u y o z =
     let a = accepted sheetLayout s h in
     let P = commonOf s .programs in
     let few : P ≤ 8 = bounds a .programs in
     let k : eqb (length (take P (call .kept))) P ≡ true = eq-eqb (length (take P (call .kept))) P (length-take-le P (call .kept) (omega arith)) in
     let m : leb (length (take (arms .count) (arms .triples))) 4 ≡ true = le-leb (length (take (arms .count) (arms .triples))) 4 (omega (arith, length-take (arms .count) (arms .triples))) in
-    rw (x, y, z, e, f, k, m, unit-same a (call .unit) (take (arms .count) (arms .triples)), state-same a (arms .count) (arms .triples))
+    rw (v, x, y, z, e, f, k, m, unit-same a (call .unit) (take (arms .count) (arms .triples)), state-same a (arms .count) (arms .triples))

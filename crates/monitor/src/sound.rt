@@ -4,7 +4,7 @@ ghost use mathlib.Core.Path.{_≡_};
 ghost use mathlib.Core.Bool.{_&&_};
 ghost use Prim.Native.Nat.{_≤_};
 ghost use lib.Dec.{eqb, ltb};
-ghost use lib.ListN.{getD, take, drop};
+ghost use lib.ListN.{length, getD, take, drop};
 ghost use Rattle.sheet.specs.Table.{every};
 ghost use Rattle.sheet.specs.Decode.{sheetOf};
 ghost use Rattle.sheet.specs.Reading.{reading, sheetLayout};
@@ -119,10 +119,17 @@ fn call_sound(s: &[u8], t: Tables, call: Call, arms: Arms) -> bool
     let h = t.header;
     let count = wide(arms.count);
     let triples = arms.triples;
-    (call.unit < h.units)
+    unit_below(call, h.units)
         & (rising(triples, count)
             & (of_unit(s, t.triples, h.last, triples, count, call.unit)
                 & of_one_state(s, t.triples, triples, count)))
+}
+
+// Whether a call's unit is below U. A call keeps eight values.
+fn unit_below(call: Call, units: u8) -> bool
+    ensures { λ r. ⌜ (r ≡ ltb (call .unit) units) × (length (call .kept) ≡ 8) ⌝ }
+{
+    call.unit < units
 }
 
 // Whether the first `count` of four numbers rise.

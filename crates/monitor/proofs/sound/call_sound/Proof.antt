@@ -8,12 +8,11 @@ use Rattle.monitor.proofs.sound.call_sound.Tie as tie
 
 returns : tie.Need-returns
 returns c =
-    let a = c .before .before .before .before .before .before .before .before .before .args in
-    let kept : length (a .call .kept) ≡ 8 = search needs in
+    let a = c .before .before .before .before .before .before .before .before .args in
     let long : length (a .arms .triples) ≡ 4 = search needs in
-    call-is (a .s .now) (a .t) (c .before .before .before .before .before .before .before .before .before .requires) (a .call) (a .arms) kept long _ (c .before .before .before .before .before .before .wide .ensures) _ (c .before .before .rising .ensures) _ (c .before .of-unit .ensures) _ (c .of-one-state .ensures)
+    call-is (a .s .now) (a .t) (c .before .before .before .before .before .before .before .before .pre) (a .call) (a .arms) long _ (c .before .before .before .unit-below .ensures) _ (c .before .before .before .before .before .wide .ensures) _ (c .before .before .rising .ensures) _ (c .before .of-unit .ensures) _ (c .of-one-state .ensures)
 
 pub call-sound-spec : {M : Type 1} → statement M
 call-sound-spec =
     tie.close
-    (tie.spec (λ c κs. search needs) (λ c κs. search needs) (λ c κs. search needs) (λ c κs. search needs) returns)
+    (tie.spec (λ c κs. search needs) (λ c κs. search needs) (λ c κs. search needs) (λ c κs. search needs) (λ c κs. search needs) returns)
