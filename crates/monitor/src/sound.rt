@@ -26,7 +26,7 @@ pub(crate) fn sound(s: &[u8], t: Tables, state: WatchState) -> bool
     ensures { λ r. ⌜ r ≡ soundState (sheetOf (now (s .entry))) state ⌝ }
 {
     let h = t.header;
-    let opened = wide(state.opened);
+    let opened = opened_in(state);
     let variables = state.variables;
     let outcome = state.outcome;
     let calls = state.calls;
@@ -38,6 +38,13 @@ pub(crate) fn sound(s: &[u8], t: Tables, state: WatchState) -> bool
     let row = step::rows::numbers_distinct(calls, opened) & calls_sound(s, t, calls, arms, opened);
     let rest = step::outcomes::outcome_fits(h.bad, h.last, state.main, state.position, outcome);
     (opened <= 16) & (tidy & ((state.main < h.states) & (row & rest)))
+}
+
+// How many calls are open, in rows of sixteen places.
+fn opened_in(state: WatchState) -> usize
+    ensures { λ r. ⌜ (r ≡ state .opened) × (length (state .variables) ≡ 4) × (length (state .calls) ≡ 16) × (length (state .arms) ≡ 16) ⌝ }
+{
+    wide(state.opened)
 }
 
 // Whether at most four triples are armed for each call, with zeros behind them.
