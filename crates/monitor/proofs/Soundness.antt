@@ -100,7 +100,7 @@ length-acted : (o : Option (List Assignment)) (E : Environment) → length (perf
 length-acted none E = refl
 length-acted (some r) E = length-performed r E
 
-among-at : {A : Type 0} (d : A) (l : List A) (x : A) → Among x l → (i : ℕ) × (i < length l) × (getD l i d ≡ x)
+pub among-at : {A : Type 0} (d : A) (l : List A) (x : A) → Among x l → (i : ℕ) × (i < length l) × (getD l i d ≡ x)
 among-at d [] x m = absurd m
 among-at d (y ∷ l) x (inl e) = (0, omega arith, sym e)
 among-at d (y ∷ l) x (inr m) = let (i, h, e) = among-at d l x m in (suc i, omega arith, e)

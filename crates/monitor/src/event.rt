@@ -5,13 +5,12 @@ ghost use mathlib.Core.Bool.{cond, not};
 ghost use mathlib.Core.List.{[]};
 ghost use Prim.Native.Nat.{min, _<_, _≤_};
 ghost use lib.Dec.{eqb};
-ghost use lib.ListN.{length, getD, set, take, drop};
+ghost use lib.ListN.{length, set, take, drop};
 ghost use Rattle.condition.specs.Meaning.{environment};
 ghost use Rattle.sheet.specs.Bytes.{byte};
 ghost use Rattle.sheet.specs.Table.{fit, table};
 ghost use Rattle.sheet.specs.Decode.{tripleForm, sheetOf};
 ghost use Rattle.step.specs.Lists.{keep, numbers};
-ghost use Rattle.step.specs.Padding.{zeroCall};
 ghost use Rattle.step.specs.Verdicts.{verdictIn};
 ghost use Rattle.step.specs.Walk.{eventOf};
 ghost use Rattle.monitor.specs.Monitor as Monitor;
@@ -126,6 +125,7 @@ fn entered(
         conditions,
         values,
     );
+    let after = moved.variables;
     let opened = wide(state.opened);
     let call = Call {
         number: event.number,
@@ -135,7 +135,7 @@ fn entered(
     let position = state.position + 1;
     WatchState {
         main: moved.main,
-        variables: moved.variables,
+        variables: after,
         opened: state.opened + 1,
         calls: step::rows::with_call(calls, opened, call),
         arms: with_arms(row, opened, arms),
@@ -171,13 +171,14 @@ fn exited(
         event,
         values,
     );
+    let after = moved.variables;
     let opened = wide(state.opened);
     let place = step::call_place(calls, opened, event.number);
-    let low = judged(s, t, conditions, calls, row, place, values);
+    let low = judged(s, t, conditions, calls[place], row[place], values);
     let position = state.position + 1;
     WatchState {
         main: moved.main,
-        variables: moved.variables,
+        variables: after,
         opened: state.opened - 1,
         calls: step::rows::without_call(calls, opened, event.number),
         arms: without_arms(calls, row, opened, event.number),
@@ -271,31 +272,22 @@ fn arms(s: &[u8], at: u32, state: u8, unit: u8, conditions: &[u32; 65], values: 
     }
 }
 
-// The lowest triple armed for the call at a place that fails, or 256.
+// The lowest triple armed for a call that fails at its exit, or 256.
 fn judged(
     s: &[u8],
     t: Tables,
     conditions: &[u32; 65],
-    calls: [Call; 16],
-    arms: [Arms; 16],
-    place: usize,
+    call: Call,
+    arms: Arms,
     values: &[u32],
 ) -> u16
-    requires { ⌜ (place < 16) × (t .header .programs ≤ 8) ⌝ }
-    ensures { λ r. ⌜ r ≡ leastOf 256 (keep (failsAt (now (s .entry)) (now (conditions .entry)) (t .triples) (environment (now (values .entry)) [] (take (t .header .programs) (getD calls place zeroCall .kept)))) (take (getD arms place zeroArms .count) (getD arms place zeroArms .triples))) ⌝ }
+    requires { ⌜ t .header .programs ≤ 8 ⌝ }
+    ensures { λ r. ⌜ r ≡ leastOf 256 (keep (failsAt (now (s .entry)) (now (conditions .entry)) (t .triples) (environment (now (values .entry)) [] (take (t .header .programs) (call .kept)))) (take (arms .count) (arms .triples))) ⌝ }
 {
     let h = t.header;
-    let call = calls[place];
-    let kept = call.kept;
     let count = wide(h.programs);
-    lowest_failing(
-        s,
-        t.triples,
-        arms[place],
-        conditions,
-        values,
-        &kept[..count],
-    )
+    let kept = call.kept;
+    lowest_failing(s, t.triples, arms, conditions, values, &kept[..count])
 }
 
 // The lowest of some triples whose postcondition fails, or 256.
