@@ -19,3 +19,4 @@ pub mod Entering
 pub mod Answering
 pub mod Following
 pub mod Testing
+pub mod Checks
