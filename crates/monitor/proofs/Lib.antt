@@ -16,3 +16,4 @@ pub mod Soundness
 pub mod Moving
 pub mod Views
 pub mod Testing
+pub mod Leaving

@@ -55,6 +55,10 @@ module _ {s : List ℕ} {t : Tables} {c i : List ℕ} (p : Prepared s t c i) whe
   unfolding commonOf
   monitors-few = rw (p .tables) (bounds (accepted sheetLayout s (p .accepted)) .monitors)
 
+  pub programs-few : t .header .programs ≤ 8
+  unfolding commonOf
+  programs-few = rw (p .tables) (bounds (accepted sheetLayout s (p .accepted)) .programs)
+
   pub moved-there : (main : ℕ) (variables : List ℕ) (event : Record) (values : List ℕ) (count : ℕ) (f : Found) (r : Moved) → length values ≡ byte s 5 → length variables ≡ 4 → count ≡ t .header .monitors
       → f ≡ firstPlace (enabledAt s c (record { from = main; kind = event .kind; unit = event .unit }) (environment values (take count variables) [])) (baseForm false) (t .header .transitions) s (t .transitions)
       → r ≡ movedAt s i f values main variables count → r ≡ movedTo s main variables (eventOf event values)
