@@ -98,15 +98,15 @@ module _ {A : Type 0} (p : A → Bool) (F : Form A) (n : ℕ) (s : List ℕ) (at
 
 -- The least of those among the first `count` numbers of an array that pass a test, i of them seen.
 module _ (p : ℕ → Bool) (row : List ℕ) (count low i top : ℕ) (g : leastOf low (keep p (drop i (take count row))) ≡ leastOf top (keep p (take count row))) where
-  ended : length (take count row) ≤ i → low ≡ leastOf top (keep p (take count row))
+  ended : (k : ℕ) → count ≡ k → length (take count row) ≤ i → low ≡ leastOf top (keep p (take k row))
   unfolding leastOf
-  ended h = rw (keep-none-left p (take count row) i h) at g
+  ended k e h = rw (← e) (rw (keep-none-left p (take count row) i h) at g)
 
-  pub least-end : count ≤ i → low ≡ leastOf top (keep p (take count row))
-  least-end h = ended (omega (arith, length-take count row))
+  pub least-end : (k : ℕ) → count ≡ k → count ≤ i → low ≡ leastOf top (keep p (take k row))
+  least-end k e h = ended k e (omega (arith, length-take count row))
 
-  pub least-far : length row ≤ i → low ≡ leastOf top (keep p (take count row))
-  least-far h = ended (omega (arith, length-take count row))
+  pub least-far : (k : ℕ) → count ≡ k → length row ≤ i → low ≡ leastOf top (keep p (take k row))
+  least-far k e h = ended k e (omega (arith, length-take count row))
 
   module _ (d : ℕ) (h : i < count) (k : i < length row) where
     there : i < length (take count row)

@@ -15,5 +15,7 @@ pub mod Arming
 pub mod Soundness
 pub mod Moving
 pub mod Views
+pub mod Entering
+pub mod Answering
 pub mod Testing
 pub mod Leaving

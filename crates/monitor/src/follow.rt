@@ -6,7 +6,7 @@ ghost use Prim.Native.Nat.{_<_};
 ghost use Rattle.sheet.specs.Bytes.{byte};
 ghost use Rattle.sheet.specs.Decode.{sheetOf};
 ghost use Rattle.sheet.specs.Reading.{reading, sheetLayout};
-ghost use Rattle.sheet.specs.Log.{logReading, recordsIn, eventsOf};
+ghost use Rattle.sheet.specs.Log.{logReading, eventsOf};
 ghost use Rattle.step.specs.Walk.{eventOf};
 ghost use Rattle.monitor.specs.Monitor as Monitor;
 ghost use Rattle.monitor.specs.Answers.{ranAnswer, offerOf, runOf};
@@ -76,43 +76,37 @@ pub(crate) fn run_accepted(s: &[u8], log: &[u8]) -> RunAnswer
 {
     let h = sheet::header_of(s);
     match sheet::read_log(log, h.programs) {
-        LogReading::Records(n) => {
+        LogReading::Records(_) => {
             let p = sheet::sheet_places(s);
             let conditions = p.conditions;
             let actions = p.actions;
             let t = tables(h, p.transitions, p.last);
-            follow(s, t, &conditions, &actions, log, n)
+            follow(s, t, &conditions, &actions, log)
         }
         LogReading::Refused(n) => RunAnswer::Refused(n),
     }
 }
 
-// Follows the n records of a log from the fresh state.
-fn follow(
-    s: &[u8],
-    t: Tables,
-    conditions: &[u32; 65],
-    actions: &[u32; 65],
-    log: &[u8],
-    n: usize,
-) -> RunAnswer
-    requires { ⌜ Prepared (now s) t (now conditions) (now actions) × (logReading (byte (now s) 5) (now log) ≡ 0) × (n ≡ recordsIn (byte (now s) 5) (now log)) ⌝ }
+// Follows the records of a log from the fresh state.
+fn follow(s: &[u8], t: Tables, conditions: &[u32; 65], actions: &[u32; 65], log: &[u8]) -> RunAnswer
+    requires { ⌜ Prepared (now s) t (now conditions) (now actions) × (logReading (byte (now s) 5) (now log) ≡ 0) ⌝ }
     ensures { λ r. ⌜ r ≡ ranAnswer (Monitor.run (sheetOf (now (s .entry))) (eventsOf (byte (now (s .entry)) 5) (now (log .entry)))) ⌝ }
 {
     let h = t.header;
     let count = wide(h.programs);
     let size = 4 + 4 * word(h.programs);
+    let end = sheet::word_at(log, 0);
     let mut state = WatchState::started(s);
     let mut i = 0;
     let mut at = 6;
-    while i < n {
+    while at < end {
         let event = sheet::record_at(log, at);
         let words = sheet::words_at(log, at + 4, h.programs);
         let values = &words[..count];
         let number = event::refusal(s, t, conditions, actions, state, event, values);
         i += 1;
         if number == 0 {} else {
-            return RunAnswer::RefusedAt(number, i as u32);
+            return RunAnswer::RefusedAt(number, i);
         }
         state = event::taken(s, t, conditions, actions, state, event, values);
         let outcome = state.outcome;

@@ -25,7 +25,7 @@ returns c =
     let a = c .before .before .before .before .before .before .before .before .args in
     let p = failsAt (a .s .now) (a .conditions .now) (a .at) (environment (a .values .now) [] (a .kept .now)) in
     let long : length (a .arms .triples) ≡ 4 = search needs in
-    rw (← c .before .before .before .wide .ensures .0) (least-far p (a .arms .triples) _ _ (c .before .before .loop .i) _ (c .before .before .loop .inv) (omega arith))
+    least-far p (a .arms .triples) _ _ (c .before .before .loop .i) _ (c .before .before .loop .inv) (a .arms .count) (c .before .before .before .wide .ensures .0) (omega arith)
 
 loop-again : tie.Need-loop-again Inv-loop μ-loop
 loop-again c =
@@ -44,7 +44,7 @@ returns-2 : tie.Need-returns-2 Inv-loop μ-loop
 returns-2 c =
     let a = c .before .before .before .before .before .before .before .args in
     let p = failsAt (a .s .now) (a .conditions .now) (a .at) (environment (a .values .now) [] (a .kept .now)) in
-    rw (← c .before .before .wide .ensures .0) (least-end p (a .arms .triples) _ _ _ _ (c .before .loop .inv) (c .loop-test .left))
+    least-end p (a .arms .triples) _ _ _ _ (c .before .loop .inv) (a .arms .count) (c .before .before .wide .ensures .0) (c .loop-test .left)
 
 pub lowest-failing-spec : {M : Type 1} → statement M
 lowest-failing-spec =

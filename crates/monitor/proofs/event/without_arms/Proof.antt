@@ -42,7 +42,7 @@ loop-again c =
     let long : length (a .t1) ≡ 16 = search needs in
     let as-long : length (a .t2) ≡ 16 = search needs in
     ⊎-elim
-    (λ w. rw (w .1, w .2) (beside-leave _ _ (other (a .number)) (a .t1) (a .t2) (a .opened) _ _ _ g _ _ h (omega arith) (omega arith) (ap not (eq-eqb _ _ (w .0 .taken)))))
+    (λ w. rw (w .1, w .2) (beside-leave _ _ (other (a .number)) (a .t1) (a .t2) (a .opened) _ _ _ g _ zeroArms h (omega arith) (omega arith) (ap not (eq-eqb _ _ (w .0 .taken)))))
     (λ w. rw (w .2, w .3) (beside-take _ _ (other (a .number)) (a .t1) (a .t2) (a .opened) _ _ _ g _ _ h (omega arith) (omega arith) (ap not (ne-eqb _ _ (w .0 .left)))))
     (c .if2 .came)
 

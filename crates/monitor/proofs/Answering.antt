@@ -1,0 +1,78 @@
+-- From the definition of one event to what offering it answers. Assumes nothing.
+use mathlib.Core.Path.{_≡_, refl, sym, ap, _∙_}
+use mathlib.Core.Bool.{Bool, true, false, cond, false≢true}
+use mathlib.Core.List.{List, map}
+use Prim.Native.Nat.{ℕ, zero, suc, _≤_}
+use native.Mathlib.Omega.{arith}
+use borrow.Author.Tests.{eq-eqb, ne-eqb}
+use lib.ListN.{length, take}
+use Rattle.sheet.specs.declared.Record.{Record}
+use Rattle.sheet.specs.declared.Reading.{Reading}
+use Rattle.sheet.specs.declared.Reading.the-variants.{Accepted, Refused}
+use Rattle.sheet.specs.Decode.{commonOf, sheetOf}
+use Rattle.sheet.specs.Reading.{reading, sheetLayout}
+use Rattle.sheet.specs.Answer.{answer}
+use Rattle.step.specs.declared.Call.{Call}
+use Rattle.step.specs.declared.Answer.{Answer}
+use Rattle.step.specs.declared.Answer.the-variants as offer
+use Rattle.step.specs.declared.RunAnswer.{RunAnswer}
+use Rattle.step.specs.declared.RunAnswer.the-variants as run
+use Rattle.step.specs.Calls as Calls
+use Rattle.step.specs.Calls.{refusalsFor, refusals, lowest}
+use Rattle.step.specs.Verdicts.{verdictIn}
+use Rattle.step.specs.Walk.{unpad, eventOf}
+use Rattle.monitor.specs.declared.WatchState.{WatchState}
+use Rattle.monitor.specs.declared.Offered.{Offered}
+use Rattle.monitor.specs.declared.event.Tables.{Tables}
+use Rattle.monitor.specs.Monitor as Monitor
+use Rattle.monitor.specs.Padded.{pad, view, soundState}
+use Rattle.monitor.specs.Answers.{offerRefusal, offerOf, runOf}
+use Rattle.monitor.specs.Walk.{Prepared}
+use Rattle.monitor.proofs.Calls.{free, offer-taken}
+use Rattle.monitor.proofs.Views.{view-calls}
+
+-- The refusals of an event, from the calls of a state.
+pub refusal-there : {s : List ℕ} {t : Tables} {c i : List ℕ} (p : Prepared s t c i) (w : WatchState) (event : Record) (values : List ℕ) → length (w .calls) ≡ length (w .arms)
+    → (b : Bool) → b ≡ Monitor.isJudged (verdictIn (w .outcome)) → (n : ℕ) → n ≡ w .opened
+    → (x : ℕ) → x ≡ lowest (refusalsFor (t .header .units) (t .header .programs) b (w .position) (map (unpad (t .header .programs)) (take n (w .calls))) (eventOf event values))
+    → x ≡ Monitor.refusal (sheetOf s) (view (sheetOf s) w) (eventOf event values)
+unfolding Monitor.refusal refusals view sheetOf commonOf
+refusal-there {s} p w event values long b eb n en x ex =
+    let P = commonOf s .programs in
+    let same = ap (λ (l : List Calls.Call). lowest (refusalsFor (commonOf s .units) P (Monitor.isJudged (verdictIn (w .outcome))) (w .position) l (eventOf event values))) (view-calls (sheetOf s) w long) in
+    ex ∙ rw (eb, en, p .tables) (sym same)
+
+-- A taken event is an entry or an exit.
+module _ (S : _) (σ : Monitor.State) (event : Record) (values : List ℕ) (z : Monitor.refusal S σ (eventOf event values) ≡ 0) where
+  pub kind-exit : (event .kind ≡ 0 → ⊥) → event .kind ≡ 1
+  kind-exit h = omega (arith, free S σ (eventOf event values) z .kind)
+
+  module _ (r : WatchState) where
+    pub taken-entry : event .kind ≡ 0 → r ≡ pad (Monitor.entered S σ (eventOf event values)) → r ≡ pad (Monitor.offer S σ (eventOf event values) .state)
+    taken-entry h e = e ∙ sym (ap pad (offer-taken S σ (eventOf event values) z ∙ rw (eq-eqb (event .kind) 0 h)))
+
+    pub taken-exit : (event .kind ≡ 0 → ⊥) → r ≡ pad (Monitor.exited S σ (eventOf event values)) → r ≡ pad (Monitor.offer S σ (eventOf event values) .state)
+    taken-exit h e = e ∙ sym (ap pad (offer-taken S σ (eventOf event values) z ∙ rw (ne-eqb (event .kind) 0 h)))
+
+-- What offering an event answers.
+abbrev offeredWith : Answer → WatchState → Offered
+offeredWith a w = record { answer = a; state = w }
+
+module _ (s : List ℕ) (w : WatchState) (event : Record) (values : List ℕ) where
+  module _ (a : reading sheetLayout s ≡ 0) where
+    pub unsound : soundState (sheetOf s) w ≡ false → offeredWith (offer.Refused 9) w ≡ offerOf s w (eventOf event values)
+    unfolding offerOf offerRefusal
+    unsound h = rw (a, h)
+
+    module _ (h : soundState (sheetOf s) w ≡ true) (n : ℕ) (e : n ≡ Monitor.refusal (sheetOf s) (view (sheetOf s) w) (eventOf event values)) where
+      pub offer-takes : n ≡ 0 → (τ : WatchState) → τ ≡ pad (Monitor.offer (sheetOf s) (view (sheetOf s) w) (eventOf event values) .state) → offeredWith offer.Taken τ ≡ offerOf s w (eventOf event values)
+      unfolding offerOf offerRefusal
+      offer-takes z τ f = rw (a, h, ← e, z, f)
+
+      pub offer-refuses : (n ≡ 0 → ⊥) → offeredWith (offer.Refused n) w ≡ offerOf s w (eventOf event values)
+      unfolding offerOf offerRefusal
+      offer-refuses k = rw (a, h, ← e) (go n k)
+        where
+          go : (m : ℕ) → (m ≡ 0 → ⊥) → offeredWith (offer.Refused m) w ≡ ?
+          go zero k = absurd (k refl)
+          go (suc m) k = refl
