@@ -13,7 +13,6 @@ use lib.Seq.{getD-take}
 use Rattle.condition.specs.Meaning.{environment}
 use Rattle.sheet.specs.declared.Triple.{Triple}
 use Rattle.sheet.specs.declared.Record.{Record}
-use Rattle.sheet.specs.Bytes.{byte}
 use Rattle.sheet.specs.Table.{every, fit}
 use Rattle.sheet.specs.Parts.{Sheet}
 use Rattle.sheet.specs.Decode.{transitionForm, lastAt, commonOf, sheetOf}
@@ -252,11 +251,7 @@ moved-fits {s} a k e v =
     let then : List ℕ → Moved = λ l. record { main = to (k .variables) .main; variables = l } in
     ap first (take-fitted 0 4 many (k .variables) v few) ∙ ap then behind
 
--- What an event that is not refused has: as many values as the sheet says, and a position to come.
-pub values-many : (s : List ℕ) (σ : State) (e : Event) → refusal (sheetOf s) σ e ≡ 0 → length (e .values) ≡ byte s 5
-unfolding sheetOf commonOf
-values-many s σ e z = free (sheetOf s) σ e z .values
-
+-- An event that is not refused has a position to come.
 below-last : (n : ℕ) → n < 4294967296 → eqb n 4294967295 ≡ false → n + 1 < 4294967296
 below-last n h e = go (ltb n 4294967295) refl
   where
@@ -310,6 +305,10 @@ module _ {s : List ℕ} (a : Accepted sheetLayout s) (σ : State) (e : Event) (h
   unfolding pad
   held-place = (rw (place-in (e .number) (σ .calls) calls-few) place-below, calls-few)
 
+  values-there : length (e .values) ≡ commonOf s .programs
+  unfolding sheetOf
+  values-there = free (sheetOf s) σ e z .values
+
   judged-right : (d : Call) (f : Arms)
       → numberIn (lowIn s (tablesOf s) (conditionPlaces s) e (getD (pad σ .calls) (placeIn e (pad σ)) d) (getD (pad σ .arms) (placeIn e (pad σ)) f))
       ≡ failing (sheetOf s) (σ .configuration) e (first (ofNumber (e .number)) (σ .calls))
@@ -322,7 +321,7 @@ module _ {s : List ℕ} (a : Accepted sheetLayout s) (σ : State) (e : Event) (h
       let here = first-place (ofNumber n) noArmed l number-open in
       let good = every-among (callSound (sheetOf s)) l c (simp and-iff at h .1 .1 .1 .1 .0) (first-passes (ofNumber n) l c here .0) in
       let there = place-in n l calls-few in
-      judged-same a (σ .configuration) e (values-many s σ e z) c good _ _
+      judged-same a (σ .configuration) e values-there c good _ _
       (ap (λ (j : ℕ). getD (callsIn l) j d) there ∙ call-at n l calls-few place place-below d)
       (ap (λ (j : ℕ). getD (armsIn l) j f) there ∙ arms-at n l calls-few place place-below f)
       ∙ ap (failing (sheetOf s) (σ .configuration) e) (sym here)
@@ -357,8 +356,16 @@ module _ {s : List ℕ} {t : Tables} {c i : List ℕ} (p : Prepared s t c i) {w 
   abbrev e : Event
   e = eventOf event values
 
-  pub exit-place : (placeIn (eventOf event values) w < w .opened) × (w .opened ≤ 16)
+  exit-place : (placeIn (eventOf event values) w < w .opened) × (w .opened ≤ 16)
   exit-place = subst (λ (v : WatchState). (placeIn e v < v .opened) × (v .opened ≤ 16)) (r .padded) (held-place (accepted sheetLayout s (p .accepted)) (view (sheetOf s) w) e (r .sound) z x)
+
+  pub place-fits : (opened : ℕ) → opened ≡ w .opened → (place : ℕ) → place ≡ placeOf (λ (c : Call). eqb (c .number) (event .number)) (take opened (w .calls)) → place < 16
+  place-fits opened eo place ep =
+      let (h, k) = exit-place in
+      rw (ep, eo) (omega arith)
+
+  pub some-open : 1 ≤ w .opened
+  some-open = omega (arith, exit-place .0)
 
   pub left : (m : Moved) → m ≡ movedTo s (w .main) (w .variables) (eventOf event values) → (opened : ℕ) → opened ≡ w .opened
       → (place : ℕ) → place ≡ placeOf (λ (c : Call). eqb (c .number) (event .number)) (take opened (w .calls))
