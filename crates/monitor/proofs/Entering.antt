@@ -1,6 +1,6 @@
 -- An entry that is taken: what its parts answer is the padded form of the definition's state. Assumes nothing.
 use mathlib.Core.Path.{_≡_, refl, sym, ap, subst, _∙_}
-use mathlib.Core.Bool.{Bool, true, false, cond, _&&_}
+use mathlib.Core.Bool.{Bool, true, false, _&&_}
 use mathlib.Core.Option.{none}
 use mathlib.Core.List.{List, [], _∷_, _++_, map, map-append}
 use Prim.Native.Nat.{ℕ, zero, suc, _+_, _≤_, _<_}
@@ -24,7 +24,7 @@ use Rattle.step.specs.declared.Moved.{Moved}
 use Rattle.step.specs.declared.Outcome.{Outcome}
 use Rattle.step.specs.Lists.{numbers}
 use Rattle.step.specs.Moves.{Configuration}
-use Rattle.step.specs.Calls.{isEntry, lastPosition}
+use Rattle.step.specs.Calls.{isEntry}
 use Rattle.step.specs.Verdicts.{verdict, verdictFor, outcomeOf}
 use Rattle.step.specs.Padding.{zeroCall, padCall}
 use Rattle.step.specs.Walk.{eventOf, numberIn}
@@ -37,16 +37,7 @@ use Rattle.monitor.specs.Sound.{sound}
 use Rattle.monitor.specs.Padded.{zeroArms, padArms, pad, view}
 use Rattle.monitor.specs.Walk.{Prepared, Ready, movedFrom, movedTo, armsAt}
 use Rattle.monitor.proofs.Calls.{Free, free}
-use Rattle.monitor.proofs.Soundness.{moved-variables}
-
--- what stands behind the elements of an array stands behind others, as many
-pub behind-fit : {A : Type 0} (d : A) (n : ℕ) (x m : List A) → length x ≡ length m → length m ≤ n → m ++ drop (length x) (fit n d x) ≡ fit n d m
-unfolding fit
-behind-fit d n [] [] e h = refl
-behind-fit d n [] (y ∷ m) e h = absurd (omega arith)
-behind-fit d n (z ∷ x) [] e h = absurd (omega arith)
-behind-fit d zero (z ∷ x) (y ∷ m) e h = absurd (omega arith)
-behind-fit {A} d (suc n) (z ∷ x) (y ∷ m) e h = ap (λ (l : List A). y ∷ l) (behind-fit d n x m (omega arith) (omega arith))
+use Rattle.monitor.proofs.Moving.{moved-fits}
 
 -- one more element behind those of an array
 set-fit : {A : Type 0} (d : A) (n : ℕ) (l : List A) (x : A) → length l < n → set (fit n d l) (length l) x ≡ fit n d (l ++ x ∷ [])
@@ -98,26 +89,16 @@ module _ {s : List ℕ} {t : Tables} {c i : List ℕ} (p : Prepared s t c i) (w 
   unfolding sheetOf commonOf
   values-all = unrefused .values
 
-  pub position-next : (n : ℕ) → n ≡ cond (eqb (w .position) lastPosition) (w .position) (w .position + 1) → n ≡ w .position + 1
-  unfolding view
-  position-next n e = rw (unrefused .notLast) at e
-
   abbrev to : Configuration
   to = movedFrom s (w .main) (w .variables) (eventOf event values)
 
-  -- the variables, with the zeros behind them
-  pub variables-moved : to .variables ++ drop (commonOf s .monitors) (w .variables) ≡ fit 4 0 (to .variables)
+  moves : movedTo s (w .main) (w .variables) (eventOf event values) ≡ record { main = to .main; variables = fit 4 0 (to .variables) }
   unfolding sound view pad sheetOf
-  variables-moved =
+  moves =
       let x = take (commonOf s .monitors) (w .variables) in
       let (b, (v, rest)) = simp (and-iff, eqb-iff) at (r .sound) in
-      let few = bounds there .monitors in
-      let moved-long = moved-variables there (record { main = w .main; variables = x }) (eventOf event values) in
-      let same : length x ≡ length (to .variables) = sym moved-long in
-      let room : length (to .variables) ≤ 4 = omega arith in
-      let e = behind-fit 0 4 x (to .variables) same room in
       let back : fit 4 0 x ≡ w .variables = ap (λ (u : WatchState). u .variables) (r .padded) in
-      subst (λ l. to .variables ++ drop (commonOf s .monitors) l ≡ fit 4 0 (to .variables)) back (subst (λ n. to .variables ++ drop n (fit 4 0 x) ≡ fit 4 0 (to .variables)) v e)
+      ap (λ (l : List ℕ). movedTo s (w .main) l (eventOf event values)) (sym back) ∙ moved-fits there (record { main = w .main; variables = x }) (eventOf event values) v
 
   has-room : event .kind ≡ 0 → length (view (sheetOf s) w .calls) < 16
   has-room entry =
@@ -134,23 +115,22 @@ module _ {s : List ℕ} {t : Tables} {c i : List ℕ} (p : Prepared s t c i) (w 
   pub entered-there : event .kind ≡ 0 → (m : Moved) → m ≡ movedTo s (w .main) (w .variables) (eventOf event values)
       → (b : Arms) → b ≡ padArms (numbers (armsAt s c (w .main) (event .unit) (environment values [] [])) 0 (table tripleForm (t .header .last) s (t .triples)))
       → (n : ℕ) → n ≡ w .opened → (k : List ℕ) → k ≡ fit 8 0 values → (calls : List Call) → calls ≡ set (w .calls) n (record { number = event .number; unit = event .unit; kept = k })
-      → (row : List Arms) → row ≡ set (w .arms) n b → (q : ℕ) → q ≡ cond (eqb (w .position) lastPosition) (w .position) (w .position + 1) → (o : Outcome) → o ≡ outcomeOf (verdictFor (t .header .bad) q (m .main) (numberIn 256))
-      → stateOf (m .main) (m .variables) (w .opened + 1) calls row q o ≡ pad (entered (sheetOf s) (view (sheetOf s) w) (eventOf event values))
+      → (row : List Arms) → row ≡ set (w .arms) n b → (o : Outcome) → o ≡ outcomeOf (verdictFor (t .header .bad) (w .position + 1) (m .main) (numberIn 256))
+      → stateOf (m .main) (m .variables) (w .opened + 1) calls row (w .position + 1) o ≡ pad (entered (sheetOf s) (view (sheetOf s) w) (eventOf event values))
   unfolding entered view pad sheetOf commonOf verdict
-  entered-there entry m em b eb n en k ek calls ec row er q eq o eo =
+  entered-there entry m em b eb n en k ek calls ec row er o eo =
       let e = eventOf event values in
       let σ = view (sheetOf s) w in
       let new : Armed = record { call = record { number = event .number; unit = event .unit; kept = values }; armed = armedBy (sheetOf s) (σ .configuration) e } in
       let room = has-room entry in
       let opened : length (σ .calls) ≡ w .opened = ap (λ (u : WatchState). u .opened) (r .padded) in
-      let main = ap (λ (x : Moved). x .main) em in
-      let position = position-next q eq in
-      let variables = ap (λ (x : Moved). x .variables) em ∙ variables-moved in
+      let main = ap (λ (x : Moved). x .main) (em ∙ moves) in
+      let variables = ap (λ (x : Moved). x .variables) (em ∙ moves) in
       let armed : b ≡ padArms (armedBy (sheetOf s) (σ .configuration) e) = eb ∙ rw (p .tables, p .conditions) (ap padArms (armed-same there (σ .configuration) e values-all)) in
       let kept : callOf (event .number) (event .unit) k ≡ padCall (new .call) = rw ek in
       let size = length-append (σ .calls) (new ∷ []) in
       let longer : w .opened + 1 ≡ length (σ .calls ++ new ∷ []) = omega arith in
       let row-calls = ec ∙ row-more (λ (x : Armed). padCall (x .call)) zeroCall 16 (w .calls) (σ .calls) new n _ (ap (λ (u : WatchState). u .calls) (r .padded)) (en ∙ sym opened) room kept in
       let row-arms = er ∙ row-more (λ (x : Armed). padArms (x .armed)) zeroArms 16 (w .arms) (σ .calls) new n b (ap (λ (u : WatchState). u .arms) (r .padded)) (en ∙ sym opened) room armed in
-      let judged : o ≡ outcomeOf (verdict (commonOf s) (w .position + 1) (to .main) none) = eo ∙ rw (main, position, p .tables) in
-      λ j. stateOf (main j) (variables j) (longer j) (row-calls j) (row-arms j) (position j) (judged j)
+      let judged : o ≡ outcomeOf (verdict (commonOf s) (w .position + 1) (to .main) none) = eo ∙ rw (main, p .tables) in
+      λ j. stateOf (main j) (variables j) (longer j) (row-calls j) (row-arms j) (w .position + 1) (judged j)

@@ -26,7 +26,7 @@ use Rattle.step.specs.declared.RunAnswer.the-variants.{Violated, Clean, Refused
 use Rattle.step.specs.Verdicts.{outcomeOf, verdictIn}
 use Rattle.step.specs.Walk.{eventOf}
 use Rattle.monitor.specs.declared.WatchState.{WatchState}
-use Rattle.monitor.specs.Monitor.{State, Ran, fresh, refusal, offered, offer, unlessJudged, unlessRefused, runFrom, run}
+use Rattle.monitor.specs.Monitor.{State, Offered, Ran, fresh, refusal, offered, offer, unlessJudged, unlessRefused, runFrom, run}
 use Rattle.monitor.specs.Sound.{sound}
 use Rattle.monitor.specs.Padded.{pad, view}
 use Rattle.monitor.specs.Answers.{ranAnswer}
@@ -121,12 +121,15 @@ module _ {s : List ℕ} (a : Accepted sheetLayout s) (log : List ℕ) where
         abbrev rest : List Event
         rest = records (eventForm P) (next .left) (drop (at + recordSize P) log)
 
+        abbrev first : Offered
+        first = offer (sheetOf s) (g .σ) (eventForm P .value (drop at log))
+
         abbrev to : State
         to = offer (sheetOf s) (g .σ) e .state
 
         unfolded : unlessRefused (offer (sheetOf s) (g .σ) e .answer) (i + 1) (unlessJudged (to .verdict) (runFrom (sheetOf s) (i + 1 + 1) to rest)) ≡ whole
         unfolding runFrom records
-        unfolded = rw (there, add-one (i + 1)) (rw (next .more, drop-drop) at (g .same))
+        unfolded = rw (there, add-one (i + 1)) (subst (λ (l : List ℕ). unlessRefused (first .answer) (i + 1) (unlessJudged (first .state .verdict) (runFrom (sheetOf s) (suc (i + 1)) (first .state) (records (eventForm P) (next .left) l))) ≡ whole) (drop-drop (recordSize P) at log) (rw (next .more) at (g .same)))
 
         pub follow-refused : (n : ℕ) → n ≡ refusal (sheetOf s) (view (sheetOf s) w) e → (n ≡ 0 → ⊥) → RefusedAt n (i + 1) ≡ ranAnswer (run (sheetOf s) (eventsOf (byte s 5) log))
         unfolding offer

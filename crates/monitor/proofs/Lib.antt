@@ -20,3 +20,4 @@ pub mod Answering
 pub mod Following
 pub mod Testing
 pub mod Checks
+pub mod Leaving

@@ -41,7 +41,7 @@ fresh-sound {s} a =
     rw (lt-ltb (C .start) (C .states) (b .start), eq-eqb _ (C .monitors) (b .initial), b .startGood)
 
 -- What holds of all elements holds of one, and of those that are kept.
-every-among : {A : Type 0} (p : A → Bool) (l : List A) (x : A) → every p l ≡ true → Among x l → p x ≡ true
+pub every-among : {A : Type 0} (p : A → Bool) (l : List A) (x : A) → every p l ≡ true → Among x l → p x ≡ true
 unfolding every
 every-among p [] x h m = absurd m
 every-among p (y ∷ l) x h (inl e) = ap p e ∙ and-parts (p y) (every p l) h .0

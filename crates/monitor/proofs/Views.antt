@@ -2,7 +2,7 @@
 use mathlib.Core.Path.{_≡_, refl, sym, ap, ap₂, subst, _∙_}
 use mathlib.Core.Bool.{Bool, true, _&&_}
 use mathlib.Core.Option.{Option, none, some}
-use mathlib.Core.List.{List, [], _∷_, map}
+use mathlib.Core.List.{List, [], _∷_, _++_, map}
 use Prim.Native.Nat.{ℕ, zero, suc, _≤_}
 use native.Mathlib.Omega.{arith}
 use lib.Dec.{eqb}
@@ -39,6 +39,15 @@ module _ {A : Type 0} (d : A) where
 
   pub take-fitted : (n m : ℕ) (l : List A) → length l ≡ m → m ≤ n → take m (fit n d l) ≡ l
   take-fitted n m l e h = rw (← e) (take-fit n l (rw (← e) at h))
+
+  -- what replaces the first elements, with the rest of the room behind it
+  pub behind-fit : (n : ℕ) (l m : List A) → length l ≡ length m → length m ≤ n → m ++ drop (length l) (fit n d l) ≡ fit n d m
+  unfolding fit
+  behind-fit n [] [] e h = refl
+  behind-fit n [] (y ∷ m) e h = absurd (omega arith)
+  behind-fit n (x ∷ l) [] e h = absurd (omega arith)
+  behind-fit zero (x ∷ l) (y ∷ m) e h = absurd (omega arith)
+  behind-fit (suc n) (x ∷ l) (y ∷ m) e h = ap (λ (r : List A). y ∷ r) (behind-fit n l m (omega arith) (omega arith))
 
   pub fit-take : (p : A → Bool) → ((x : A) → p x ≡ true → x ≡ d) → (k : ℕ) (l : List A) → every p (drop k l) ≡ true → fit (length l) d (take k l) ≡ l
   unfolding fit every

@@ -132,7 +132,7 @@ fn entered(
         unit: event.unit,
         kept: step::rows::eight(values),
     };
-    let position = step::outcomes::next_position(state.position);
+    let position = state.position + 1;
     WatchState {
         main: moved.main,
         variables: after,
@@ -175,7 +175,7 @@ fn exited(
     let opened = wide(state.opened);
     let place = step::call_place(calls, opened, event.number);
     let low = judged(s, t, conditions, calls[place], row[place], values);
-    let position = step::outcomes::next_position(state.position);
+    let position = state.position + 1;
     WatchState {
         main: moved.main,
         variables: after,

@@ -1,27 +1,14 @@
 // Verdicts: what an event brings, and whether what a state holds is sound.
 
 ghost use mathlib.Core.Path.{_≡_};
-ghost use mathlib.Core.Bool.{cond, _&&_};
-ghost use Prim.Native.Nat.{_+_};
+ghost use mathlib.Core.Bool.{_&&_};
 ghost use lib.Dec.{eqb, ltb};
-ghost use Rattle.step.specs.Calls.{lastPosition};
 ghost use Rattle.step.specs.Verdicts.{ifThere, stateIn, tripleIn, verdictFor, verdictFits, outcomeOf, verdictIn};
 ghost use Rattle.step.specs.Walk.{numberIn};
 ghost use Rattle.sheet.specs.Reading.{isBad};
 use crate::Cause;
 use crate::Outcome;
 use crate::Verdict;
-
-// The position after one more event; the last one stays.
-pub fn next_position(position: u32) -> u32
-    ensures { λ r. ⌜ r ≡ cond (eqb position lastPosition) position (position + 1) ⌝ }
-{
-    if position == 4294967295 {
-        position
-    } else {
-        position + 1
-    }
-}
 
 // The outcome of an event: at a position, for the bad states, the new main state, and the lowest
 // failing triple (256 or more for none).

@@ -10,8 +10,8 @@ returns : tie.Need-returns
 returns c =
     let b = c .before .before .before .before .before .before .before in
     let a = b .args in
-    let long : length (a .state .calls) ≡ 16 = search needs in
-    let as-long : length (a .state .arms) ≡ 16 = search needs in
+    let long : length (a .state .calls) ≡ 16 = search (needs, b .good .1 .1 .1 .1) in
+    let as-long : length (a .state .arms) ≡ 16 = search (needs, b .good .1 .1 .1 .1) in
     refusal-there (b .pre) (a .state) (a .event) (a .values .now) (long ∙ sym as-long) _ (c .before .before .is-judged .ensures) _ (c .before .wide .ensures .0) _ (c .refusal .ensures)
 
 pub refusal-spec : {M : Type 1} → statement M
