@@ -94,7 +94,7 @@ module _ (S : Sheet) (w : WatchState) (v : length (w .variables) ≡ 4) (long : 
       let k : eqb (length (take n (w .variables))) n ≡ true = eq-eqb (length (take n (w .variables))) n (length-take-le n (w .variables) (omega arith)) in
       let m : leb (length row) 16 ≡ true = le-leb (length row) 16 (omega (arith, g, e)) in
       let d : map (λ (a : Armed). a .call .number) row ≡ map (λ (c : Call). c .number) (take (w .opened) (w .calls)) =
-        beside-left (shown (S .common .programs)) (λ (a : Armed). a .call .number) (λ (c : Call). c .number) (λ c a. refl) (take (w .opened) (w .calls)) (take (w .opened) (w .arms)) (omega arith) in
+      beside-left (shown (S .common .programs)) (λ (a : Armed). a .call .number) (λ (c : Call). c .number) (λ c a. refl) (take (w .opened) (w .calls)) (take (w .opened) (w .arms)) (omega arith) in
       rw (k, m, d) (ap (λ (b : Bool). ltb (w .main) (S .common .states) && b) (and-assoc (distinct (map (λ (c : Call). c .number) (take (w .opened) (w .calls)))) (every (callSound S) row) (verdictSound S (w .main) (w .position) (verdictIn (w .outcome)))))
 
 pub sound-is : (s : List ℕ) (t : Tables) → (reading sheetLayout s ≡ 0) × (t ≡ tablesOf s)
