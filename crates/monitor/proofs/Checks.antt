@@ -29,6 +29,7 @@ use Rattle.monitor.specs.Walk.{tablesOf, tripleAt}
 use Rattle.monitor.proofs.Triples.{triple-there}
 use Rattle.monitor.proofs.Views.{length-beside, beside-left}
 
+-- what owning a row of structs tells of its length, for `search`
 pub length-mapped : (A B : Type 0) (f : A → B) (l : List A) (n : ℕ) → length (map f l) ≡ n → length l ≡ n
 length-mapped A B f l n e = sym (length-map l f) ∙ e
 
@@ -39,16 +40,17 @@ first-same f zero l = refl
 first-same f (suc n) [] = refl
 first-same f (suc n) (x ∷ l) = refl
 
-module _ {s : List ℕ} (a : Accepted sheetLayout s) where
-  pub triples-in : length (sheetOf s .triples) ≡ lastIn s
-  unfolding sheetOf
-  triples-in = length-records tripleForm (lastIn s) (drop (lastAt transitionForm s) s)
+pub triples-in : (s : List ℕ) → length (sheetOf s .triples) ≡ lastIn s
+unfolding sheetOf
+triples-in s = length-records tripleForm (lastIn s) (drop (lastAt transitionForm s) s)
 
+-- the tests of the triples armed, on the bytes and on the sheet
+module _ {s : List ℕ} (a : Accepted sheetLayout s) where
   unit-same : (unit : ℕ) (l : List ℕ)
       → every (λ i. ltb i (lastIn s) && eqb (tripleAt s (lastAt transitionForm s) i .unit) unit) l ≡ every (λ i. ltb i (length (sheetOf s .triples)) && eqb (tripleIn (sheetOf s) i .unit) unit) l
   unit-same unit l =
       every-same (λ i. ltb i (lastIn s) && eqb (tripleAt s (lastAt transitionForm s) i .unit) unit) (λ i. ltb i (length (sheetOf s .triples)) && eqb (tripleIn (sheetOf s) i .unit) unit)
-      (λ i. ap₂ (λ (n : ℕ) (t : Triple). ltb i n && eqb (t .unit) unit) (sym triples-in) (triple-there a i)) l
+      (λ i. ap₂ (λ (n : ℕ) (t : Triple). ltb i n && eqb (t .unit) unit) (sym (triples-in s)) (triple-there a i)) l
 
   state-same : (n : ℕ) (l : List ℕ)
       → every (λ i. eqb (tripleAt s (lastAt transitionForm s) i .state) (tripleAt s (lastAt transitionForm s) (getD l 0 0) .state)) (take n l) ≡ ofOneState (sheetOf s) (take n l)
@@ -94,9 +96,10 @@ module _ (S : Sheet) (w : WatchState) (v : length (w .variables) ≡ 4) (long : 
       let k : eqb (length (take n (w .variables))) n ≡ true = eq-eqb (length (take n (w .variables))) n (length-take-le n (w .variables) (omega arith)) in
       let m : leb (length row) 16 ≡ true = le-leb (length row) 16 (omega (arith, g, e)) in
       let d : map (λ (a : Armed). a .call .number) row ≡ map (λ (c : Call). c .number) (take (w .opened) (w .calls)) =
-        beside-left (shown (S .common .programs)) (λ (a : Armed). a .call .number) (λ (c : Call). c .number) (λ c a. refl) (take (w .opened) (w .calls)) (take (w .opened) (w .arms)) (omega arith) in
+      beside-left (shown (S .common .programs)) (λ (a : Armed). a .call .number) (λ (c : Call). c .number) (λ c a. refl) (take (w .opened) (w .calls)) (take (w .opened) (w .arms)) (omega arith) in
       rw (k, m, d) (ap (λ (b : Bool). ltb (w .main) (S .common .states) && b) (and-assoc (distinct (map (λ (c : Call). c .number) (take (w .opened) (w .calls)))) (every (callSound S) row) (verdictSound S (w .main) (w .position) (verdictIn (w .outcome)))))
 
+-- all tests of a state
 pub sound-is : (s : List ℕ) (t : Tables) → (reading sheetLayout s ≡ 0) × (t ≡ tablesOf s)
     → (w : WatchState) (o : ℕ) → (o ≡ w .opened) × (length (w .variables) ≡ 4) × (length (w .calls) ≡ 16) × (length (w .arms) ≡ 16)
     → (m : ℕ) → (m ≡ t .header .monitors) × (m < 256) → (p : ℕ) → (p ≡ t .header .programs) × (p < 256)
@@ -112,4 +115,4 @@ pub sound-is : (s : List ℕ) (t : Tables) → (reading sheetLayout s ≡ 0) × 
 unfolding soundState sheetOf commonOf
 sound-is s t (h, e) w o (f, v, long, same) m (g, mm) p (k, pp) b₁ e₁ b₂ e₂ b₃ e₃ b₄ e₄ b₅ e₅ b₆ e₆ b₇ e₇ b₈ e₈ =
     let a = accepted sheetLayout s h in
-    rw (← tidy-parts (sheetOf s) w v long same, ← sound-parts (sheetOf s) w v long same (bounds a .monitors), triples-in a, e₁, e₂, e₃, e₄, e₅, e₆, e₇, e₈, f, g, k, e)
+    rw (← tidy-parts (sheetOf s) w v long same, ← sound-parts (sheetOf s) w v long same (bounds a .monitors), triples-in s, e₁, e₂, e₃, e₄, e₅, e₆, e₇, e₈, f, g, k, e)
