@@ -38,7 +38,15 @@ use Rattle.monitor.specs.Padded.{zeroArms, padArms, pad, view}
 use Rattle.monitor.specs.Walk.{Prepared, Ready, movedFrom, movedTo, armsAt}
 use Rattle.monitor.proofs.Calls.{Free, free}
 use Rattle.monitor.proofs.Soundness.{moved-variables}
-use Rattle.monitor.proofs.Views.{behind-fit}
+
+-- what stands behind the elements of an array stands behind others, as many
+pub behind-fit : {A : Type 0} (d : A) (n : ℕ) (x m : List A) → length x ≡ length m → length m ≤ n → m ++ drop (length x) (fit n d x) ≡ fit n d m
+unfolding fit
+behind-fit d n [] [] e h = refl
+behind-fit d n [] (y ∷ m) e h = absurd (omega arith)
+behind-fit d n (z ∷ x) [] e h = absurd (omega arith)
+behind-fit d zero (z ∷ x) (y ∷ m) e h = absurd (omega arith)
+behind-fit {A} d (suc n) (z ∷ x) (y ∷ m) e h = ap (λ (l : List A). y ∷ l) (behind-fit d n x m (omega arith) (omega arith))
 
 -- one more element behind those of an array
 set-fit : {A : Type 0} (d : A) (n : ℕ) (l : List A) (x : A) → length l < n → set (fit n d l) (length l) x ≡ fit n d (l ++ x ∷ [])

@@ -3,17 +3,17 @@ use mathlib.Core.Path.{_≡_, refl, sym, ap, ap₂, subst, _∙_}
 use mathlib.Core.Logic.{inl, inr}
 use mathlib.Core.Bool.{Bool, true, false, not, cond, _&&_, false≢true}
 use mathlib.Core.Option.{Option, none, some}
-use mathlib.Core.List.{List, [], _∷_, map}
+use mathlib.Core.List.{List, [], _∷_, _++_, map}
 use Prim.Native.Nat.{ℕ, zero, suc, _+_, _-_, min, _≤_, _<_}
 use native.Mathlib.Omega.{arith}
 use borrow.Author.Tests.{ltb-true, ltb-false, lt-ltb, eqb-true, eqb-false, eq-eqb, ne-eqb, not-false}
 use lib.Dec.{eqb, ltb}
-use lib.ListN.{length, getD, take, length-map}
+use lib.ListN.{length, getD, take, drop, length-map}
 use lib.Seq.{getD-take}
 use Rattle.condition.specs.Meaning.{environment}
 use Rattle.sheet.specs.declared.Triple.{Triple}
 use Rattle.sheet.specs.declared.Record.{Record}
-use Rattle.sheet.specs.Table.{fit}
+use Rattle.sheet.specs.Table.{every, fit}
 use Rattle.sheet.specs.Parts.{Sheet}
 use Rattle.sheet.specs.Decode.{transitionForm, lastAt, commonOf, sheetOf}
 use Rattle.sheet.specs.Reading.{lastOf, sheetLayout}
@@ -39,13 +39,12 @@ use Rattle.monitor.specs.declared.event.Tables.{Tables}
 use Rattle.monitor.specs.Monitor.{Armed, State, tripleIn, fails, failing, ofNumber, exited, refusal}
 use Rattle.monitor.specs.Sound.{callSound, sound}
 use Rattle.monitor.specs.Padded.{zeroArms, padArms, pad, view}
-use Rattle.monitor.specs.Walk.{tablesOf, Prepared, Ready, movedFrom, movedTo, failsAt, leastOf, keepBeside}
+use Rattle.monitor.specs.Walk.{tablesOf, Prepared, Ready, movedTo, failsAt, leastOf, keepBeside}
 use Rattle.monitor.proofs.Broken.{noTriple}
 use Rattle.monitor.proofs.Calls.{free}
-use Rattle.monitor.proofs.Entering.{stateOf, variables-moved}
-use Rattle.monitor.proofs.Soundness.{every-among}
+use Rattle.monitor.proofs.Soundness.{every-among, moved-variables}
 use Rattle.monitor.proofs.Triples.{triple-there}
-use Rattle.monitor.proofs.Views.{take-fit, take-fitted}
+use Rattle.monitor.proofs.Views.{take-fit, take-fitted, behind-fit}
 
 -- Of a list's images: those that pass a test, what stands beside them, the place of the first, and the one at a place.
 module _ {A B : Type 0} (p : B → Bool) (f : A → B) where
@@ -236,6 +235,22 @@ module _ {s : List ℕ} (a : Accepted sheetLayout s) (k : Configuration) (e : Ev
       ap (λ (l : List ℕ). numberIn (leastOf 256 l)) (ap₂ low kept armed ∙ keep-same _ (fails (sheetOf s) k e (c .call)) (c .armed) fails-same)
       ∙ number-least (keep (fails (sheetOf s) k e (c .call)) (c .armed)) (λ i m. omega (arith, armed-exists i (kept-are i m .0), bounds a .last))
 
+-- The variables after an event, with their room behind them.
+pub moved-fits : {s : List ℕ} → Accepted sheetLayout s → (k : Configuration) (e : Event) → length (k .variables) ≡ commonOf s .monitors
+    → movedTo s (k .main) (fit 4 0 (k .variables)) e ≡ record { main = moved (commonOf s) (sheetOf s .transitions) k e .main; variables = fit 4 0 (moved (commonOf s) (sheetOf s .transitions) k e .variables) }
+unfolding sheetOf
+moved-fits {s} a k e v =
+    let many = commonOf s .monitors in
+    let row = fit 4 0 (k .variables) in
+    let to : List ℕ → Configuration = λ l. moved (commonOf s) (sheetOf s .transitions) (record { main = k .main; variables = l }) e in
+    let after = to (k .variables) .variables in
+    let few = bounds a .monitors in
+    let long = moved-variables a k e in
+    let behind = subst (λ (j : ℕ). after ++ drop j row ≡ fit 4 0 after) v (behind-fit 0 4 (k .variables) after (sym long) (omega arith)) in
+    let first : List ℕ → Moved = λ l. record { main = to l .main; variables = to l .variables ++ drop many row } in
+    let then : List ℕ → Moved = λ l. record { main = to (k .variables) .main; variables = l } in
+    ap first (take-fitted 0 4 many (k .variables) v few) ∙ ap then behind
+
 -- An event that is not refused has a position to come.
 below-last : (n : ℕ) → n < 4294967296 → eqb n 4294967295 ≡ false → n + 1 < 4294967296
 below-last n h e = go (ltb n 4294967295) refl
@@ -252,22 +267,22 @@ unfolding view
 position-fits S w e z h = below-last (w .position) h (free S (view S w) e z .notLast)
 
 -- The place of the call that ends, the lowest failing triple there, and the state after the exit, from the state as it is held.
-abbrev placeIn : Event → WatchState → ℕ
+abbrev pub placeIn : Event → WatchState → ℕ
 placeIn e w = placeOf (λ (c : Call). eqb (c .number) (e .number)) (take (w .opened) (w .calls))
 
 abbrev pub lowIn : List ℕ → Tables → List ℕ → Event → Call → Arms → ℕ
 lowIn s t index e call arms = leastOf 256 (keep (failsAt s index (t .triples) (environment (e .values) [] (take (t .header .programs) (call .kept)))) (take (arms .count) (arms .triples)))
 
-abbrev leftBy : List ℕ → Tables → List ℕ → Event → Configuration → Call → Arms → WatchState → WatchState
-leftBy s t index e to noCall noArms w =
+abbrev leftBy : List ℕ → Tables → List ℕ → Event → Call → Arms → WatchState → WatchState
+leftBy s t index e noCall noArms w =
     record {
-      main = to .main;
-      variables = fit 4 0 (to .variables);
+      main = movedTo s (w .main) (w .variables) e .main;
+      variables = movedTo s (w .main) (w .variables) e .variables;
       opened = w .opened - 1;
       calls = fit 16 zeroCall (keep (λ (c : Call). not (eqb (c .number) (e .number))) (take (w .opened) (w .calls)));
       arms = fit 16 zeroArms (keepBeside (λ (c : Call). not (eqb (c .number) (e .number))) (take (w .opened) (w .calls)) (take (w .opened) (w .arms)));
       position = w .position + 1;
-      outcome = outcomeOf (verdictFor (t .header .bad) (w .position + 1) (to .main) (numberIn (lowIn s t index e (getD (w .calls) (placeIn e w) noCall) (getD (w .arms) (placeIn e w) noArms))));
+      outcome = outcomeOf (verdictFor (t .header .bad) (w .position + 1) (movedTo s (w .main) (w .variables) e .main) (numberIn (lowIn s t index e (getD (w .calls) (placeIn e w) noCall) (getD (w .arms) (placeIn e w) noArms))));
     }
 
 -- An exit that is not refused, on a sound state.
@@ -311,20 +326,32 @@ module _ {s : List ℕ} (a : Accepted sheetLayout s) (σ : State) (e : Event) (h
       (ap (λ (j : ℕ). getD (armsIn l) j f) there ∙ arms-at n l calls-few place place-below f)
       ∙ ap (failing (sheetOf s) (σ .configuration) e) (sym here)
 
+  variables-many : length (σ .configuration .variables) ≡ commonOf s .monitors
+  unfolding sound sheetOf
+  variables-many = simp (and-iff, eqb-iff) at h .1 .0
+
   one-less : length (σ .calls) - 1 ≡ length (keep (λ c. not (ofNumber (e .number) c)) (σ .calls))
   unfolding sound
   one-less = omega (arith, one-fewer (λ (c : Armed). c .call .number) (e .number) (σ .calls) (simp and-iff at h .1 .1 .1 .0) number-open)
 
-  left-is : (d : Call) (f : Arms) → leftBy s (tablesOf s) (conditionPlaces s) e (moved (commonOf s) (sheetOf s .transitions) (σ .configuration) e) d f (pad σ) ≡ pad (exited (sheetOf s) σ e)
+  left-is : (d : Call) (f : Arms) → leftBy s (tablesOf s) (conditionPlaces s) e d f (pad σ) ≡ pad (exited (sheetOf s) σ e)
   unfolding pad exited verdict sheetOf commonOf
   left-is d f =
-      let to = moved (commonOf s) (sheetOf s .transitions) (σ .configuration) e in
-      let judged : Option ℕ → Outcome = λ triple. outcomeOf (verdictFor (commonOf s .bad) (σ .position + 1) (to .main) triple) in
-      let outcome = ap judged (judged-right d f) in
-      λ i. stateOf (to .main) (fit 4 0 (to .variables)) (one-less i) (calls-left (e .number) (σ .calls) calls-few i) (arms-left (e .number) (σ .calls) calls-few i) (σ .position + 1) (outcome i)
+      let m = moved-fits a (σ .configuration) e variables-many in
+      let judged : ℕ → Option ℕ → Outcome = λ main t. outcomeOf (verdictFor (commonOf s .bad) (σ .position + 1) main t) in
+      let outcome = ap₂ judged (ap (λ (r : Moved). r .main) m) (judged-right d f) in
+      λ i. record {
+        main = m i .main;
+        variables = m i .variables;
+        opened = one-less i;
+        calls = calls-left (e .number) (σ .calls) calls-few i;
+        arms = arms-left (e .number) (σ .calls) calls-few i;
+        position = σ .position + 1;
+        outcome = outcome i;
+      }
 
 -- The same on a state as it is held, with what the calls answer.
-module _ {s : List ℕ} {t : Tables} {c i : List ℕ} (p : Prepared s t c i) (w : WatchState) (r : Ready s w) (event : Record) (values : List ℕ)
+module _ {s : List ℕ} {t : Tables} {c i : List ℕ} (p : Prepared s t c i) {w : WatchState} (r : Ready s w) (event : Record) (values : List ℕ)
     (z : refusal (sheetOf s) (view (sheetOf s) w) (eventOf event values) ≡ 0) (x : event .kind ≡ 1) where
   abbrev e : Event
   e = eventOf event values
@@ -340,30 +367,25 @@ module _ {s : List ℕ} {t : Tables} {c i : List ℕ} (p : Prepared s t c i) (w 
   pub some-open : 1 ≤ w .opened
   some-open = omega (arith, exit-place .0)
 
-  pub exited-there : (m : Moved) → m ≡ movedTo s (w .main) (w .variables) (eventOf event values) → (opened : ℕ) → opened ≡ w .opened
+  pub left : (m : Moved) → m ≡ movedTo s (w .main) (w .variables) (eventOf event values) → (opened : ℕ) → opened ≡ w .opened
       → (place : ℕ) → place ≡ placeOf (λ (c : Call). eqb (c .number) (event .number)) (take opened (w .calls))
       → (d : Call) (f : Arms) (low : ℕ) → low ≡ lowIn s t c (eventOf event values) (getD (w .calls) place d) (getD (w .arms) place f)
       → (calls : List Call) → calls ≡ fit 16 zeroCall (keep (λ (c : Call). not (eqb (c .number) (event .number))) (take opened (w .calls)))
       → (arms : List Arms) → arms ≡ fit 16 zeroArms (keepBeside (λ (c : Call). not (eqb (c .number) (event .number))) (take opened (w .calls)) (take opened (w .arms)))
       → (o : Outcome) → o ≡ outcomeOf (verdictFor (t .header .bad) (w .position + 1) (m .main) (numberIn low))
-      → stateOf (m .main) (m .variables) (w .opened - 1) calls arms (w .position + 1) o ≡ pad (exited (sheetOf s) (view (sheetOf s) w) (eventOf event values))
-  unfolding view sheetOf
-  exited-there m em opened eo place ep d f low el calls ec arms ea o ej =
-      let σ = view (sheetOf s) w in
-      let to = movedFrom s (w .main) (w .variables) e in
+      → record { main = m .main; variables = m .variables; opened = w .opened - 1; calls = calls; arms = arms; position = w .position + 1; outcome = o } ≡ pad (exited (sheetOf s) (view (sheetOf s) w) (eventOf event values))
+  left m em opened eo place ep d f low el calls ec arms ea o ej =
       let q : Call → Bool = λ c. not (eqb (c .number) (event .number)) in
       let there : place ≡ placeIn e w = ep ∙ ap (λ (j : ℕ). placeOf (λ (c : Call). eqb (c .number) (event .number)) (take j (w .calls))) eo in
       let lowest = el ∙ ap (λ (j : ℕ). lowIn s t c e (getD (w .calls) j d) (getD (w .arms) j f)) there in
       let judged : ℕ → ℕ → Outcome = λ main n. outcomeOf (verdictFor (t .header .bad) (w .position + 1) main (numberIn n)) in
-      let main = ap (λ (v : Moved). v .main) em in
-      let variables = ap (λ (v : Moved). v .variables) em ∙ variables-moved p w r event values z in
-      let row-calls = ec ∙ ap (λ (j : ℕ). fit 16 zeroCall (keep q (take j (w .calls)))) eo in
-      let row-arms = ea ∙ ap (λ (j : ℕ). fit 16 zeroArms (keepBeside q (take j (w .calls)) (take j (w .arms)))) eo in
-      let outcome = ej ∙ ap₂ judged main lowest in
-      let known : stateOf (m .main) (m .variables) (w .opened - 1) calls arms (w .position + 1) o ≡ leftBy s t c e to d f w =
-      λ j. stateOf (main j) (variables j) (w .opened - 1) (row-calls j) (row-arms j) (w .position + 1) (outcome j) in
+      let outcome = ej ∙ ap₂ judged (ap (λ (v : Moved). v .main) em) lowest in
+      let rows = ec ∙ ap (λ (j : ℕ). fit 16 zeroCall (keep q (take j (w .calls)))) eo in
+      let beside = ea ∙ ap (λ (j : ℕ). fit 16 zeroArms (keepBeside q (take j (w .calls)) (take j (w .arms)))) eo in
+      let known : record { main = m .main; variables = m .variables; opened = w .opened - 1; calls = calls; arms = arms; position = w .position + 1; outcome = o } ≡ leftBy s t c e d f w =
+        λ j. record { main = em j .main; variables = em j .variables; opened = w .opened - 1; calls = rows j; arms = beside j; position = w .position + 1; outcome = outcome j } in
       known
-      ∙ ap (λ (v : Tables). leftBy s v c e to d f w) (p .tables)
-      ∙ ap (λ (v : List ℕ). leftBy s (tablesOf s) v e to d f w) (p .conditions)
-      ∙ ap (leftBy s (tablesOf s) (conditionPlaces s) e to d f) (sym (r .padded))
-      ∙ left-is (accepted sheetLayout s (p .accepted)) σ e (r .sound) z x d f
+      ∙ ap (λ (v : Tables). leftBy s v c e d f w) (p .tables)
+      ∙ ap (λ (v : List ℕ). leftBy s (tablesOf s) v e d f w) (p .conditions)
+      ∙ ap (leftBy s (tablesOf s) (conditionPlaces s) e d f) (sym (r .padded))
+      ∙ left-is (accepted sheetLayout s (p .accepted)) (view (sheetOf s) w) e (r .sound) z x d f
