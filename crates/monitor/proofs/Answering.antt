@@ -26,7 +26,8 @@ use Rattle.monitor.specs.declared.Offered.{Offered}
 use Rattle.monitor.specs.declared.event.Tables.{Tables}
 use Rattle.monitor.specs.Monitor as Monitor
 use Rattle.monitor.specs.Padded.{pad, view, soundState}
-use Rattle.monitor.specs.Answers.{offerRefusal, offerOf, runOf}
+use Rattle.step.specs.Answers.{answerOf}
+use Rattle.monitor.specs.Answers.{offerRefusal, whenTaken, offerOf, runOf}
 use Rattle.monitor.specs.Walk.{Prepared}
 use Rattle.monitor.proofs.Calls.{free, offer-taken}
 use Rattle.monitor.proofs.Views.{view-calls}
@@ -54,9 +55,17 @@ module _ (S : _) (σ : Monitor.State) (event : Record) (values : List ℕ) (z : 
     pub taken-exit : (event .kind ≡ 0 → ⊥) → r ≡ pad (Monitor.exited S σ (eventOf event values)) → r ≡ pad (Monitor.offer S σ (eventOf event values) .state)
     taken-exit h e = e ∙ sym (ap pad (offer-taken S σ (eventOf event values) z ∙ rw (ne-eqb (event .kind) 0 h)))
 
+abbrev isRefused : Reading → Bool
+isRefused Accepted = false
+isRefused (Refused n) = true
+
 -- What offering an event answers.
 abbrev offeredWith : Answer → WatchState → Offered
 offeredWith a w = record { answer = a; state = w }
+
+refused-with : (n : ℕ) → (n ≡ 0 → ⊥) → (w τ : WatchState) → offeredWith (offer.Refused n) w ≡ offeredWith (answerOf n) (whenTaken n w τ)
+refused-with zero k w τ = absurd (k refl)
+refused-with (suc n) k w τ = refl
 
 module _ (s : List ℕ) (w : WatchState) (event : Record) (values : List ℕ) where
   module _ (a : reading sheetLayout s ≡ 0) where
@@ -71,8 +80,40 @@ module _ (s : List ℕ) (w : WatchState) (event : Record) (values : List ℕ) wh
 
       pub offer-refuses : (n ≡ 0 → ⊥) → offeredWith (offer.Refused n) w ≡ offerOf s w (eventOf event values)
       unfolding offerOf offerRefusal
-      offer-refuses k = rw (a, h, ← e) (go n k)
-        where
-          go : (m : ℕ) → (m ≡ 0 → ⊥) → offeredWith (offer.Refused m) w ≡ ?
-          go zero k = absurd (k refl)
-          go (suc m) k = refl
+      offer-refuses k = rw (a, h, ← e) (refused-with n k w _)
+
+-- a sheet that is not read
+abbrev asOffered : Reading → Answer
+asOffered Accepted = offer.Taken
+asOffered (Refused n) = offer.Refused n
+
+abbrev asRun : Reading → RunAnswer
+asRun Accepted = run.Refused 0
+asRun (Refused n) = run.Refused n
+
+module _ (s : List ℕ) (r : Reading) (er : r ≡ answer (reading sheetLayout s)) where
+  pub read-accepted : r ≡ Accepted → reading sheetLayout s ≡ 0
+  read-accepted h = go (reading sheetLayout s) (sym er ∙ h)
+    where
+      go : (m : ℕ) → answer m ≡ Accepted → m ≡ 0
+      go zero e = refl
+      go (suc m) e = absurd (false≢true (sym (ap isRefused e)))
+
+  refused-number : (n : ℕ) → r ≡ Refused n → (m : ℕ) × (reading sheetLayout s ≡ suc m) × (Refused n ≡ Refused (suc m))
+  refused-number n h = go (reading sheetLayout s) (sym er ∙ h)
+    where
+      go : (m : ℕ) → answer m ≡ Refused n → (k : ℕ) × (m ≡ suc k) × (Refused n ≡ Refused (suc k))
+      go zero e = absurd (false≢true (ap isRefused e))
+      go (suc m) e = (m, refl, sym e)
+
+  pub offer-unread : (n : ℕ) → r ≡ Refused n → (w : WatchState) (event : Record) (values : List ℕ) → offeredWith (offer.Refused n) w ≡ offerOf s w (eventOf event values)
+  unfolding offerOf offerRefusal
+  offer-unread n h w event values =
+      let (m, f, e) = refused-number n h in
+      rw f (ap (λ (x : Reading). offeredWith (asOffered x) w) e)
+
+  pub run-unread : (n : ℕ) → r ≡ Refused n → (log : List ℕ) → run.Refused n ≡ runOf s log
+  unfolding runOf
+  run-unread n h log =
+      let (m, f, e) = refused-number n h in
+      rw f (ap asRun e)

@@ -37,16 +37,7 @@ use Rattle.monitor.specs.Sound.{sound}
 use Rattle.monitor.specs.Padded.{zeroArms, padArms, pad, view}
 use Rattle.monitor.specs.Walk.{Prepared, Ready, movedFrom, movedTo, armsAt}
 use Rattle.monitor.proofs.Calls.{Free, free}
-use Rattle.monitor.proofs.Soundness.{moved-variables}
-
--- what stands behind the elements of an array stands behind others, as many
-pub behind-fit : {A : Type 0} (d : A) (n : ℕ) (x m : List A) → length x ≡ length m → length m ≤ n → m ++ drop (length x) (fit n d x) ≡ fit n d m
-unfolding fit
-behind-fit d n [] [] e h = refl
-behind-fit d n [] (y ∷ m) e h = absurd (omega arith)
-behind-fit d n (z ∷ x) [] e h = absurd (omega arith)
-behind-fit d zero (z ∷ x) (y ∷ m) e h = absurd (omega arith)
-behind-fit {A} d (suc n) (z ∷ x) (y ∷ m) e h = ap (λ (l : List A). y ∷ l) (behind-fit d n x m (omega arith) (omega arith))
+use Rattle.monitor.proofs.Moving.{moved-fits}
 
 -- one more element behind those of an array
 set-fit : {A : Type 0} (d : A) (n : ℕ) (l : List A) (x : A) → length l < n → set (fit n d l) (length l) x ≡ fit n d (l ++ x ∷ [])
@@ -101,19 +92,25 @@ module _ {s : List ℕ} {t : Tables} {c i : List ℕ} (p : Prepared s t c i) (w 
   abbrev to : Configuration
   to = movedFrom s (w .main) (w .variables) (eventOf event values)
 
-  -- the variables, with the zeros behind them
-  pub variables-moved : to .variables ++ drop (commonOf s .monitors) (w .variables) ≡ fit 4 0 (to .variables)
+  moves : movedTo s (w .main) (w .variables) (eventOf event values) ≡ record { main = to .main; variables = fit 4 0 (to .variables) }
   unfolding sound view pad sheetOf
-  variables-moved =
+  moves =
       let x = take (commonOf s .monitors) (w .variables) in
       let (b, (v, rest)) = simp (and-iff, eqb-iff) at (r .sound) in
-      let few = bounds there .monitors in
-      let moved-long = moved-variables there (record { main = w .main; variables = x }) (eventOf event values) in
-      let same : length x ≡ length (to .variables) = sym moved-long in
-      let room : length (to .variables) ≤ 4 = omega arith in
-      let e = behind-fit 0 4 x (to .variables) same room in
       let back : fit 4 0 x ≡ w .variables = ap (λ (u : WatchState). u .variables) (r .padded) in
-      subst (λ l. to .variables ++ drop (commonOf s .monitors) l ≡ fit 4 0 (to .variables)) back (subst (λ n. to .variables ++ drop n (fit 4 0 x) ≡ fit 4 0 (to .variables)) v e)
+      ap (λ (l : List ℕ). movedTo s (w .main) l (eventOf event values)) (sym back) ∙ moved-fits there (record { main = w .main; variables = x }) (eventOf event values) v
+
+  has-room : event .kind ≡ 0 → length (view (sheetOf s) w .calls) < 16
+  has-room entry =
+      let calls = view (sheetOf s) w .calls in
+      let short = leb-false 16 (length (map (λ (x : Armed). x .call) calls)) (rw (eq-eqb (event .kind) 0 entry) at (unrefused .room)) in
+      omega (arith, length-map calls (λ (x : Armed). x .call))
+
+  pub opened-room : event .kind ≡ 0 → w .opened < 16
+  unfolding pad
+  opened-room entry =
+      let opened : length (view (sheetOf s) w .calls) ≡ w .opened = ap (λ (u : WatchState). u .opened) (r .padded) in
+      omega (arith, has-room entry)
 
   pub entered-there : event .kind ≡ 0 → (m : Moved) → m ≡ movedTo s (w .main) (w .variables) (eventOf event values)
       → (b : Arms) → b ≡ padArms (numbers (armsAt s c (w .main) (event .unit) (environment values [] [])) 0 (table tripleForm (t .header .last) s (t .triples)))
@@ -125,11 +122,10 @@ module _ {s : List ℕ} {t : Tables} {c i : List ℕ} (p : Prepared s t c i) (w 
       let e = eventOf event values in
       let σ = view (sheetOf s) w in
       let new : Armed = record { call = record { number = event .number; unit = event .unit; kept = values }; armed = armedBy (sheetOf s) (σ .configuration) e } in
-      let short = leb-false 16 (length (map (λ (x : Armed). x .call) (σ .calls))) (rw (eq-eqb (event .kind) 0 entry) at (unrefused .room)) in
-      let room : length (σ .calls) < 16 = omega (arith, length-map (σ .calls) (λ (x : Armed). x .call)) in
+      let room = has-room entry in
       let opened : length (σ .calls) ≡ w .opened = ap (λ (u : WatchState). u .opened) (r .padded) in
-      let main = ap (λ (x : Moved). x .main) em in
-      let variables = ap (λ (x : Moved). x .variables) em ∙ variables-moved in
+      let main = ap (λ (x : Moved). x .main) (em ∙ moves) in
+      let variables = ap (λ (x : Moved). x .variables) (em ∙ moves) in
       let armed : b ≡ padArms (armedBy (sheetOf s) (σ .configuration) e) = eb ∙ rw (p .tables, p .conditions) (ap padArms (armed-same there (σ .configuration) e values-all)) in
       let kept : callOf (event .number) (event .unit) k ≡ padCall (new .call) = rw ek in
       let size = length-append (σ .calls) (new ∷ []) in

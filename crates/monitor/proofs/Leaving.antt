@@ -42,7 +42,8 @@ use Rattle.monitor.specs.Padded.{zeroArms, padArms, pad, view}
 use Rattle.monitor.specs.Walk.{tablesOf, Prepared, Ready, movedTo, failsAt, leastOf, keepBeside}
 use Rattle.monitor.proofs.Broken.{noTriple}
 use Rattle.monitor.proofs.Calls.{free}
-use Rattle.monitor.proofs.Soundness.{every-among, moved-variables}
+use Rattle.monitor.proofs.Soundness.{every-among}
+use Rattle.monitor.proofs.Moving.{moved-fits}
 use Rattle.monitor.proofs.Triples.{triple-there}
 use Rattle.monitor.proofs.Views.{take-fit, take-fitted, behind-fit}
 
@@ -234,37 +235,6 @@ module _ {s : List ℕ} (a : Accepted sheetLayout s) (k : Configuration) (e : Ev
       let kept-are = kept-passes (fails (sheetOf s) k e (c .call)) (c .armed) in
       ap (λ (l : List ℕ). numberIn (leastOf 256 l)) (ap₂ low kept armed ∙ keep-same _ (fails (sheetOf s) k e (c .call)) (c .armed) fails-same)
       ∙ number-least (keep (fails (sheetOf s) k e (c .call)) (c .armed)) (λ i m. omega (arith, armed-exists i (kept-are i m .0), bounds a .last))
-
--- The variables after an event, with their room behind them.
-pub moved-fits : {s : List ℕ} → Accepted sheetLayout s → (k : Configuration) (e : Event) → length (k .variables) ≡ commonOf s .monitors
-    → movedTo s (k .main) (fit 4 0 (k .variables)) e ≡ record { main = moved (commonOf s) (sheetOf s .transitions) k e .main; variables = fit 4 0 (moved (commonOf s) (sheetOf s .transitions) k e .variables) }
-unfolding sheetOf
-moved-fits {s} a k e v =
-    let many = commonOf s .monitors in
-    let row = fit 4 0 (k .variables) in
-    let to : List ℕ → Configuration = λ l. moved (commonOf s) (sheetOf s .transitions) (record { main = k .main; variables = l }) e in
-    let after = to (k .variables) .variables in
-    let few = bounds a .monitors in
-    let long = moved-variables a k e in
-    let behind = subst (λ (j : ℕ). after ++ drop j row ≡ fit 4 0 after) v (behind-fit 0 4 (k .variables) after (sym long) (omega arith)) in
-    let first : List ℕ → Moved = λ l. record { main = to l .main; variables = to l .variables ++ drop many row } in
-    let then : List ℕ → Moved = λ l. record { main = to (k .variables) .main; variables = l } in
-    ap first (take-fitted 0 4 many (k .variables) v few) ∙ ap then behind
-
--- An event that is not refused has a position to come.
-below-last : (n : ℕ) → n < 4294967296 → eqb n 4294967295 ≡ false → n + 1 < 4294967296
-below-last n h e = go (ltb n 4294967295) refl
-  where
-    go : (b : Bool) → ltb n 4294967295 ≡ b → n + 1 < 4294967296
-    go true q = omega (arith, ltb-true n 4294967295 q)
-    go false q =
-        let k = ltb-false n 4294967295 q in
-        let same : n ≡ 4294967295 = omega arith in
-        absurd (eqb-false n 4294967295 e same)
-
-pub position-fits : (S : Sheet) (w : WatchState) (e : Event) → refusal S (view S w) e ≡ 0 → w .position < 4294967296 → w .position + 1 < 4294967296
-unfolding view
-position-fits S w e z h = below-last (w .position) h (free S (view S w) e z .notLast)
 
 -- The place of the call that ends, the lowest failing triple there, and the state after the exit, from the state as it is held.
 abbrev pub placeIn : Event → WatchState → ℕ

@@ -17,5 +17,7 @@ pub mod Moving
 pub mod Views
 pub mod Entering
 pub mod Answering
+pub mod Following
 pub mod Testing
+pub mod Checks
 pub mod Leaving

@@ -1,16 +1,20 @@
 -- Taking a transition of an accepted sheet, and where its tables begin. Assumes nothing.
-use mathlib.Core.Path.{_≡_, refl, sym, ap, _∙_}
-use mathlib.Core.Bool.{false}
+use mathlib.Core.Path.{_≡_, refl, sym, ap, subst, _∙_}
+use mathlib.Core.Bool.{Bool, true, false}
 use mathlib.Core.Option.{Option}
 use mathlib.Core.List.{List, [], _++_}
-use Prim.Native.Nat.{ℕ, _≤_, _<_}
+use Prim.Native.Nat.{ℕ, _+_, _≤_, _<_}
 use native.Mathlib.Omega.{arith}
+use borrow.Author.Tests.{ltb-true, ltb-false, eqb-false}
+use lib.Dec.{eqb, ltb}
 use lib.ListN.{length, take, drop, take-append-drop}
 use lib.Seq.{length-take-le}
 use Rattle.condition.specs.Meaning.{environment}
 use Rattle.sheet.specs.declared.Transition.{Transition}
 use Rattle.sheet.specs.declared.Record.{Record}
 use Rattle.sheet.specs.Bytes.{byte}
+use Rattle.sheet.specs.Table.{fit}
+use Rattle.sheet.specs.Parts.{Sheet}
 use Rattle.sheet.specs.Decode.{transitionOf, transitionForm, transitionsAt, lastAt, commonOf, sheetOf}
 use Rattle.sheet.specs.Reading.{transitionsOf, reading, sheetLayout}
 use Rattle.sheet.specs.Log.{Event}
@@ -26,8 +30,13 @@ use Rattle.step.specs.Walk.{enabledAt, baseForm, firstPlace, eventOf, movedAt}
 use Rattle.step.proofs.Lists.{first-passes}
 use Rattle.step.proofs.Bridge.{actionPlaces, foundAt, action-acts, first-enabled-sheet}
 use Rattle.monitor.specs.declared.event.Tables.{Tables}
+use Rattle.monitor.specs.declared.WatchState.{WatchState}
+use Rattle.monitor.specs.Monitor.{refusal}
+use Rattle.monitor.specs.Padded.{view}
 use Rattle.monitor.specs.Walk.{tablesOf, Prepared, movedTo}
-use Rattle.monitor.proofs.Soundness.{among-at}
+use Rattle.monitor.proofs.Calls.{free}
+use Rattle.monitor.proofs.Soundness.{among-at, moved-variables}
+use Rattle.monitor.proofs.Views.{take-fitted, behind-fit}
 
 -- the state and the variables without what stands behind them, and what a transition makes of them with it
 abbrev held : List ℕ → ℕ → List ℕ → Configuration
@@ -82,3 +91,34 @@ table-places {s} a =
 -- what reading a sheet leaves behind
 pub prepared : {s : List ℕ} → reading sheetLayout s ≡ 0 → Prepared s (tablesOf s) (placesOf sheetLayout s .conditions) (placesOf sheetLayout s .actions)
 prepared h = record { accepted = h; tables = refl; conditions = refl; actions = refl }
+
+-- The variables after an event, with their room behind them.
+pub moved-fits : {s : List ℕ} → Accepted sheetLayout s → (k : Configuration) (e : Event) → length (k .variables) ≡ commonOf s .monitors
+    → movedTo s (k .main) (fit 4 0 (k .variables)) e ≡ record { main = moved (commonOf s) (sheetOf s .transitions) k e .main; variables = fit 4 0 (moved (commonOf s) (sheetOf s .transitions) k e .variables) }
+unfolding sheetOf
+moved-fits {s} a k e v =
+    let many = commonOf s .monitors in
+    let row = fit 4 0 (k .variables) in
+    let to : List ℕ → Configuration = λ l. moved (commonOf s) (sheetOf s .transitions) (record { main = k .main; variables = l }) e in
+    let after = to (k .variables) .variables in
+    let few = bounds a .monitors in
+    let long = moved-variables a k e in
+    let behind = subst (λ (j : ℕ). after ++ drop j row ≡ fit 4 0 after) v (behind-fit 0 4 (k .variables) after (sym long) (omega arith)) in
+    let first : List ℕ → Moved = λ l. record { main = to l .main; variables = to l .variables ++ drop many row } in
+    let then : List ℕ → Moved = λ l. record { main = to (k .variables) .main; variables = l } in
+    ap first (take-fitted 0 4 many (k .variables) v few) ∙ ap then behind
+
+-- An event that is not refused has a position to come.
+below-last : (n : ℕ) → n < 4294967296 → eqb n 4294967295 ≡ false → n + 1 < 4294967296
+below-last n h e = go (ltb n 4294967295) refl
+  where
+    go : (b : Bool) → ltb n 4294967295 ≡ b → n + 1 < 4294967296
+    go true q = omega (arith, ltb-true n 4294967295 q)
+    go false q =
+        let k = ltb-false n 4294967295 q in
+        let same : n ≡ 4294967295 = omega arith in
+        absurd (eqb-false n 4294967295 e same)
+
+pub position-fits : (S : Sheet) (w : WatchState) (e : Event) → refusal S (view S w) e ≡ 0 → w .position < 4294967296 → w .position + 1 < 4294967296
+unfolding view
+position-fits S w e z h = below-last (w .position) h (free S (view S w) e z .notLast)

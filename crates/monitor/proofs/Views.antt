@@ -154,7 +154,7 @@ outcome-verdict : (o : Outcome) → outcomeOf (verdictIn o) ≡ o
 outcome-verdict Open = refl
 outcome-verdict (Judged v) = refl
 
-verdict-outcome : (o : Option Verdict) → verdictIn (outcomeOf o) ≡ o
+pub verdict-outcome : (o : Option Verdict) → verdictIn (outcomeOf o) ≡ o
 verdict-outcome none = refl
 verdict-outcome (some v) = refl
 
@@ -234,9 +234,11 @@ module _ {s : List ℕ} (a : Accepted sheetLayout s) where
       let (o, (t, g)) = simp and-iff at h in
       record { sound = g; padded = pad-view (sheetOf s) w h }
 
-  pub ready-pad : (σ : State) → sound (sheetOf s) σ ≡ true → Ready s (pad σ)
+  pub view-back : (σ : State) → sound (sheetOf s) σ ≡ true → view (sheetOf s) (pad σ) ≡ σ
   unfolding sheetOf
+  view-back σ h = view-pad (sheetOf s) σ (bounds a .monitors) (bounds a .programs) h
+
+  pub ready-pad : (σ : State) → sound (sheetOf s) σ ≡ true → Ready s (pad σ)
   ready-pad σ h =
-      let b = bounds a in
-      let e : view (sheetOf s) (pad σ) ≡ σ = view-pad (sheetOf s) σ (b .monitors) (b .programs) h in
+      let e = view-back σ h in
       record { sound = ap (sound (sheetOf s)) e ∙ h; padded = ap pad e }

@@ -4,7 +4,7 @@ ghost use mathlib.Core.Path.{_≡_};
 ghost use mathlib.Core.Bool.{_&&_};
 ghost use Prim.Native.Nat.{_≤_};
 ghost use lib.Dec.{eqb, ltb};
-ghost use lib.ListN.{getD, take, drop};
+ghost use lib.ListN.{length, getD, take, drop};
 ghost use Rattle.sheet.specs.Table.{every};
 ghost use Rattle.sheet.specs.Decode.{sheetOf};
 ghost use Rattle.sheet.specs.Reading.{reading, sheetLayout};
@@ -26,7 +26,7 @@ pub(crate) fn sound(s: &[u8], t: Tables, state: WatchState) -> bool
     ensures { λ r. ⌜ r ≡ soundState (sheetOf (now (s .entry))) state ⌝ }
 {
     let h = t.header;
-    let opened = wide(state.opened);
+    let opened = opened_in(state);
     let variables = state.variables;
     let outcome = state.outcome;
     let calls = state.calls;
@@ -40,21 +40,34 @@ pub(crate) fn sound(s: &[u8], t: Tables, state: WatchState) -> bool
     (opened <= 16) & (tidy & ((state.main < h.states) & (row & rest)))
 }
 
+// How many calls are open, in rows of sixteen places.
+fn opened_in(state: WatchState) -> usize
+    ensures { λ r. ⌜ (r ≡ state .opened) × (length (state .variables) ≡ 4) × (length (state .calls) ≡ 16) × (length (state .arms) ≡ 16) ⌝ }
+{
+    wide(state.opened)
+}
+
 // Whether at most four triples are armed for each call, with zeros behind them.
 fn arms_tidy(arms: [Arms; 16]) -> bool
     ensures { λ r. ⌜ r ≡ every tidyArms arms ⌝ }
 {
     let mut i = 0;
     while i < 16 {
-        let a = arms[i];
-        let count = wide(a.count);
-        let triples = a.triples;
-        if (count <= 4) & triples_clear(triples, count) {} else {
+        if is_tidy(arms[i]) {} else {
             return false;
         }
         i += 1;
     }
     true
+}
+
+fn is_tidy(arms: Arms) -> bool
+    ensures { λ r. ⌜ r ≡ tidyArms arms ⌝ }
+{
+    let count = wide(arms.count);
+    let triples = arms.triples;
+    let clear = triples_clear(triples, count);
+    (count <= 4) & clear
 }
 
 // Whether nothing is armed from a place on.
@@ -113,10 +126,17 @@ fn call_sound(s: &[u8], t: Tables, call: Call, arms: Arms) -> bool
     let h = t.header;
     let count = wide(arms.count);
     let triples = arms.triples;
-    (call.unit < h.units)
+    unit_below(call, h.units)
         & (rising(triples, count)
             & (of_unit(s, t.triples, h.last, triples, count, call.unit)
                 & of_one_state(s, t.triples, triples, count)))
+}
+
+// Whether a call's unit is below U. A call keeps eight values.
+fn unit_below(call: Call, units: u8) -> bool
+    ensures { λ r. ⌜ (r ≡ ltb (call .unit) units) × (length (call .kept) ≡ 8) ⌝ }
+{
+    call.unit < units
 }
 
 // Whether the first `count` of four numbers rise.

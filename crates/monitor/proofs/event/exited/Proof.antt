@@ -4,9 +4,9 @@ use Prim.Native.Nat.{_<_}
 use native.Mathlib.Omega.{arith}
 use Rattle.sheet.specs.Decode.{sheetOf}
 use Rattle.step.specs.Walk.{eventOf}
-use Rattle.monitor.proofs.Moving.{programs-few}
+use Rattle.monitor.proofs.Moving.{programs-few, position-fits}
 use Rattle.monitor.proofs.Entering.{values-all}
-use Rattle.monitor.proofs.Leaving.{position-fits, place-fits, some-open, left}
+use Rattle.monitor.proofs.Leaving.{place-fits, some-open, left}
 use Rattle.monitor.proofs.event.exited.Statement.{statement}
 use Rattle.monitor.proofs.event.exited.Tie as tie
 
