@@ -3,18 +3,17 @@ use mathlib.Core.Path.{_≡_, refl, sym, ap, ap₂, subst, _∙_}
 use mathlib.Core.Logic.{inl, inr}
 use mathlib.Core.Bool.{Bool, true, false, not, cond, _&&_, false≢true}
 use mathlib.Core.Option.{Option, none, some}
-use mathlib.Core.List.{List, [], _∷_, _++_, map}
+use mathlib.Core.List.{List, [], _∷_, map}
 use Prim.Native.Nat.{ℕ, zero, suc, _+_, _-_, min, _≤_, _<_}
 use native.Mathlib.Omega.{arith}
-use borrow.Author.Tests.{ltb-true, ltb-false, lt-ltb, eqb-true, eqb-false, eq-eqb, ne-eqb, not-false}
+use borrow.Author.Tests.{ltb-true, lt-ltb, eqb-true, eqb-false, eq-eqb, ne-eqb, not-false}
 use lib.Dec.{eqb, ltb}
-use lib.ListN.{length, getD, take, drop, length-map}
+use lib.ListN.{length, getD, take, length-map}
 use lib.Seq.{getD-take}
 use Rattle.condition.specs.Meaning.{environment}
 use Rattle.sheet.specs.declared.Triple.{Triple}
 use Rattle.sheet.specs.declared.Record.{Record}
-use Rattle.sheet.specs.Table.{every, fit}
-use Rattle.sheet.specs.Parts.{Sheet}
+use Rattle.sheet.specs.Table.{fit}
 use Rattle.sheet.specs.Decode.{transitionForm, lastAt, commonOf, sheetOf}
 use Rattle.sheet.specs.Reading.{lastOf, sheetLayout}
 use Rattle.sheet.specs.Log.{Event}
@@ -25,7 +24,7 @@ use Rattle.step.specs.declared.Call.{Call}
 use Rattle.step.specs.declared.Moved.{Moved}
 use Rattle.step.specs.declared.Outcome.{Outcome}
 use Rattle.step.specs.Lists.{first, keep, any, lesser, least, distinct}
-use Rattle.step.specs.Moves.{Configuration, moved}
+use Rattle.step.specs.Moves.{Configuration}
 use Rattle.step.specs.Calls as Calls
 use Rattle.step.specs.Verdicts.{verdictFor, verdict, outcomeOf}
 use Rattle.step.specs.Walk.{meetsAt, placeOf, eventOf, numberIn}
@@ -45,7 +44,7 @@ use Rattle.monitor.proofs.Calls.{free}
 use Rattle.monitor.proofs.Soundness.{every-among}
 use Rattle.monitor.proofs.Moving.{moved-fits}
 use Rattle.monitor.proofs.Triples.{triple-there}
-use Rattle.monitor.proofs.Views.{take-fit, take-fitted, behind-fit}
+use Rattle.monitor.proofs.Views.{take-fit, take-fitted}
 
 -- Of a list's images: those that pass a test, what stands beside them, the place of the first, and the one at a place.
 module _ {A B : Type 0} (p : B → Bool) (f : A → B) where
@@ -353,7 +352,7 @@ module _ {s : List ℕ} {t : Tables} {c i : List ℕ} (p : Prepared s t c i) {w 
       let rows = ec ∙ ap (λ (j : ℕ). fit 16 zeroCall (keep q (take j (w .calls)))) eo in
       let beside = ea ∙ ap (λ (j : ℕ). fit 16 zeroArms (keepBeside q (take j (w .calls)) (take j (w .arms)))) eo in
       let known : record { main = m .main; variables = m .variables; opened = w .opened - 1; calls = calls; arms = arms; position = w .position + 1; outcome = o } ≡ leftBy s t c e d f w =
-        λ j. record { main = em j .main; variables = em j .variables; opened = w .opened - 1; calls = rows j; arms = beside j; position = w .position + 1; outcome = outcome j } in
+      λ j. record { main = em j .main; variables = em j .variables; opened = w .opened - 1; calls = rows j; arms = beside j; position = w .position + 1; outcome = outcome j } in
       known
       ∙ ap (λ (v : Tables). leftBy s v c e d f w) (p .tables)
       ∙ ap (λ (v : List ℕ). leftBy s (tablesOf s) v e d f w) (p .conditions)

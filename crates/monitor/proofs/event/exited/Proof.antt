@@ -1,7 +1,6 @@
 -- `event::exited` meets its contract. Assumes nothing.
 use borrow.Author.Needs.{needs}
 use Prim.Native.Nat.{_<_}
-use native.Mathlib.Omega.{arith}
 use Rattle.sheet.specs.Decode.{sheetOf}
 use Rattle.step.specs.Walk.{eventOf}
 use Rattle.monitor.proofs.Moving.{programs-few, position-fits}
