@@ -1,7 +1,7 @@
 -- From the definition of one event to what offering it answers. Assumes nothing.
 use mathlib.Core.Path.{_≡_, refl, sym, ap, _∙_}
 use mathlib.Core.Bool.{Bool, true, false, cond, false≢true}
-use mathlib.Core.List.{List, map}
+use mathlib.Core.List.{List, [], _∷_, map}
 use Prim.Native.Nat.{ℕ, zero, suc, _≤_}
 use native.Mathlib.Omega.{arith}
 use borrow.Author.Tests.{eq-eqb, ne-eqb}
@@ -9,6 +9,7 @@ use lib.ListN.{length, take}
 use Rattle.sheet.specs.declared.Record.{Record}
 use Rattle.sheet.specs.declared.Reading.{Reading}
 use Rattle.sheet.specs.declared.Reading.the-variants.{Accepted, Refused}
+use Rattle.sheet.specs.Table.{fit}
 use Rattle.sheet.specs.Decode.{commonOf, sheetOf}
 use Rattle.sheet.specs.Reading.{reading, sheetLayout}
 use Rattle.sheet.specs.Answer.{answer}
@@ -25,20 +26,36 @@ use Rattle.monitor.specs.declared.WatchState.{WatchState}
 use Rattle.monitor.specs.declared.Offered.{Offered}
 use Rattle.monitor.specs.declared.event.Tables.{Tables}
 use Rattle.monitor.specs.Monitor as Monitor
-use Rattle.monitor.specs.Padded.{pad, view, soundState}
+use Rattle.monitor.specs.Padded.{zeroArms, pad, view, soundState}
+use Rattle.step.specs.Padding.{zeroCall}
 use Rattle.step.specs.Answers.{answerOf}
 use Rattle.monitor.specs.Answers.{offerRefusal, whenTaken, offerOf, runOf}
-use Rattle.monitor.specs.Walk.{Prepared}
+use Rattle.monitor.specs.Walk.{Prepared, Ready}
 use Rattle.monitor.proofs.Calls.{free, offer-taken}
 use Rattle.monitor.proofs.Views.{view-calls}
 
+-- the two rows of a sound state have the same length
+length-fit : {A : Type 0} (n : ℕ) (d : A) (l : List A) → length (fit n d l) ≡ n
+unfolding fit
+length-fit zero d l = refl
+length-fit (suc n) d [] = ap suc (length-fit n d [])
+length-fit (suc n) d (x ∷ l) = ap suc (length-fit n d l)
+
+ready-rows : {s : List ℕ} {w : WatchState} → Ready s w → length (w .calls) ≡ length (w .arms)
+unfolding pad
+ready-rows {s} {w} r =
+    let e = ap (λ (u : WatchState). length (u .calls)) (r .padded) in
+    let f = ap (λ (u : WatchState). length (u .arms)) (r .padded) in
+    sym e ∙ length-fit 16 zeroCall _ ∙ sym (length-fit 16 zeroArms _) ∙ f
+
 -- The refusals of an event, from the calls of a state.
-pub refusal-there : {s : List ℕ} {t : Tables} {c i : List ℕ} (p : Prepared s t c i) (w : WatchState) (event : Record) (values : List ℕ) → length (w .calls) ≡ length (w .arms)
+pub refusal-there : {s : List ℕ} {t : Tables} {c i : List ℕ} (p : Prepared s t c i) (w : WatchState) → Ready s w → (event : Record) (values : List ℕ)
     → (b : Bool) → b ≡ Monitor.isJudged (verdictIn (w .outcome)) → (n : ℕ) → n ≡ w .opened
     → (x : ℕ) → x ≡ lowest (refusalsFor (t .header .units) (t .header .programs) b (w .position) (map (unpad (t .header .programs)) (take n (w .calls))) (eventOf event values))
     → x ≡ Monitor.refusal (sheetOf s) (view (sheetOf s) w) (eventOf event values)
 unfolding Monitor.refusal refusals view sheetOf commonOf
-refusal-there {s} p w event values long b eb n en x ex =
+refusal-there {s} p w r event values b eb n en x ex =
+    let long = ready-rows r in
     let P = commonOf s .programs in
     let same = ap (λ (l : List Calls.Call). lowest (refusalsFor (commonOf s .units) P (Monitor.isJudged (verdictIn (w .outcome))) (w .position) l (eventOf event values))) (view-calls (sheetOf s) w long) in
     ex ∙ rw (eb, en, p .tables) (sym same)

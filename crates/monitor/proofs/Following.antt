@@ -30,16 +30,17 @@ use Rattle.monitor.specs.Monitor.{State, Offered, Ran, fresh, refusal, o
 use Rattle.monitor.specs.Sound.{sound}
 use Rattle.monitor.specs.Padded.{pad, view}
 use Rattle.monitor.specs.Answers.{ranAnswer}
-use Rattle.monitor.specs.Walk.{Ready}
+use Rattle.monitor.specs.declared.event.Tables.{Tables}
+use Rattle.monitor.specs.Walk.{Prepared, Ready}
 use Rattle.monitor.proofs.Soundness.{fresh-sound, offer-sound}
 use Rattle.monitor.proofs.Views.{take-fitted, verdict-outcome, view-back, ready-pad}
 
 -- A record of the log as an event: its first bytes, and P words behind them.
-pub event-there : (P : ℕ) → P ≤ 8 → (log : List ℕ) (at : ℕ) (r : Record) → r ≡ recordOf (drop at log) → (n : ℕ) → n ≡ P → (words : List ℕ) → words ≡ fit 8 0 (table wordForm P log (at + 4))
+pub event-there : (P : ℕ) → P ≤ 8 → (log : List ℕ) (at : ℕ) (r : Record) → r ≡ recordOf (drop at log) → (n : ℕ) → n ≡ P → (m : ℕ) → m ≡ P → (words : List ℕ) → words ≡ fit 8 0 (table wordForm m log (at + 4))
     → eventOf r (take n words) ≡ eventForm P .value (drop at log)
-event-there P few log at r er n en words ew =
+event-there P few log at r er n en m em words ew =
     let values = take-fitted 0 8 P (table wordForm P log (at + 4)) (length-records wordForm P (drop (at + 4) log)) few in
-    rw (er, en, ew, values, drop-drop)
+    rw (er, en, ew, em, values, drop-drop)
 
 -- What reading a log leaves: it says its length, and its records fill it.
 pub log-length : (P : ℕ) (log : List ℕ) → logReading P log ≡ 0 → word log 0 ≡ length log
@@ -55,6 +56,14 @@ log-filled P log h =
     let ((a, rest), (b, (c, z))) = simp (unless-iff, and-iff, leb-iff, eqb-iff) at h in
     whole-length (length log) (recordSize P * ((length log - 6) / recordSize P)) a (ap (λ k. recordSize P * ((length log - 6) / recordSize P) + k) (sym c) ∙ div-add-mod (length log - 6) (recordSize P))
 
+-- how many bytes a record has, and how many values
+module _ {s : List ℕ} {t : Tables} {c i : List ℕ} (p : Prepared s t c i) (n : ℕ) (e : n ≡ t .header .programs) where
+  pub values-count : n ≡ byte s 5
+  values-count = e ∙ ap (λ (x : Tables). x .header .programs) (p .tables)
+
+  pub record-size : 4 + 4 * n ≡ recordSize (byte s 5)
+  record-size = ap recordSize values-count
+
 -- with `left` records to go from `at` on, the run is that of the whole log
 pub record Following (s log : List ℕ) (w : WatchState) (i at end : ℕ) : Type 0 where
   pub σ : State
@@ -64,6 +73,7 @@ pub record Following (s log : List ℕ) (w : WatchState) (i at end : ℕ) : Type
   pub same : runFrom (sheetOf s) (i + 1) σ (records (eventForm (byte s 5)) left (drop at log)) ≡ run (sheetOf s) (eventsOf (byte s 5) log)
   pub ends : at + recordSize (byte s 5) * left ≡ end
   pub low : i < at
+  pub fits : end < 4294967296
 
 module _ {s : List ℕ} (a : Accepted sheetLayout s) (log : List ℕ) where
   abbrev P : ℕ
@@ -72,9 +82,9 @@ module _ {s : List ℕ} (a : Accepted sheetLayout s) (log : List ℕ) where
   abbrev whole : Ran
   whole = run (sheetOf s) (eventsOf P log)
 
-  pub follow-start : logReading (byte s 5) log ≡ 0 → (w : WatchState) → w ≡ pad (fresh (sheetOf s)) → (end : ℕ) → end ≡ word log 0 → Following s log w 0 6 end
+  pub follow-start : logReading (byte s 5) log ≡ 0 → (w : WatchState) → w ≡ pad (fresh (sheetOf s)) → (end : ℕ) → end ≡ word log 0 → end < 4294967296 → Following s log w 0 6 end
   unfolding run eventsOf
-  follow-start h w e end f =
+  follow-start h w e end f l =
       record {
         σ = fresh (sheetOf s);
         left = recordsIn P log;
@@ -83,6 +93,7 @@ module _ {s : List ℕ} (a : Accepted sheetLayout s) (log : List ℕ) where
         same = refl;
         ends = log-filled P log h ∙ sym (f ∙ log-length P log h);
         low = omega arith;
+        fits = l;
       }
 
   module _ (w : WatchState) (i at end : ℕ) (g : Following s log w i at end) where
@@ -160,9 +171,10 @@ module _ {s : List ℕ} (a : Accepted sheetLayout s) (log : List ℕ) where
           pub follow-violated : (x : Verdict) → v .outcome ≡ Judged x → Violated x ≡ ranAnswer (run (sheetOf s) (eventsOf (byte s 5) log))
           follow-violated x k = ap ranAnswer (rw (taken, judged x k) at unfolded)
 
-          pub follow-next : v .outcome ≡ Open → Following s log v (i + 1) (at + recordSize (byte s 5)) end
-          follow-next k =
-              record {
+          pub follow-next : v .outcome ≡ Open → (size : ℕ) → size ≡ recordSize (byte s 5) → Following s log v (i + 1) (at + size) end
+          follow-next k size b =
+              rw b
+              (record {
                 σ = to;
                 left = next .left;
                 padded = moved;
@@ -170,4 +182,5 @@ module _ {s : List ℕ} (a : Accepted sheetLayout s) (log : List ℕ) where
                 same = rw (taken, unjudged k) at unfolded;
                 ends = next .ends;
                 low = omega (arith, g .low);
-              }
+                fits = g .fits;
+              })

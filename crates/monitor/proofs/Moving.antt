@@ -18,7 +18,9 @@ use Rattle.sheet.specs.Parts.{Sheet}
 use Rattle.sheet.specs.Decode.{transitionOf, transitionForm, transitionsAt, lastAt, commonOf, sheetOf}
 use Rattle.sheet.specs.Reading.{transitionsOf, reading, sheetLayout}
 use Rattle.sheet.specs.Log.{Event}
-use Rattle.sheet.specs.Answer.{placesOf}
+use Rattle.sheet.specs.declared.Header.{Header}
+use Rattle.sheet.specs.declared.Places.{Places}
+use Rattle.sheet.specs.Answer.{headerOf, placesOf}
 use Rattle.sheet.proofs.Accepted.{Accepted, accepted, reading-accepted, bounds, tables-end, sheet-transition}
 use Rattle.sheet.proofs.Limits.{sheet-longest}
 use Rattle.step.specs.declared.Found.{Found}
@@ -89,8 +91,15 @@ table-places {s} a =
     (omega arith, omega arith)
 
 -- what reading a sheet leaves behind
-pub prepared : {s : List ℕ} → reading sheetLayout s ≡ 0 → Prepared s (tablesOf s) (placesOf sheetLayout s .conditions) (placesOf sheetLayout s .actions)
-prepared h = record { accepted = h; tables = refl; conditions = refl; actions = refl }
+abbrev tablesWith : Header → ℕ → ℕ → Tables
+tablesWith h transitions triples = record { header = h; transitions = transitions; triples = triples }
+
+module _ (s : List ℕ) (h : reading sheetLayout s ≡ 0) (q : Places) (e : q ≡ placesOf sheetLayout s) where
+  pub places-fit : (q .transitions < 65536) × (q .last < 65536)
+  places-fit = rw e (table-places (accepted sheetLayout s h))
+
+  pub prepared-with : (x : Header) → x ≡ headerOf s → (t : Tables) → t ≡ tablesWith x (q .transitions) (q .last) → Prepared s t (q .conditions) (q .actions)
+  prepared-with x f t g = record { accepted = h; tables = rw (g, f, e); conditions = ap (λ (p : Places). p .conditions) e; actions = ap (λ (p : Places). p .actions) e }
 
 -- The variables after an event, with their room behind them.
 pub moved-fits : {s : List ℕ} → Accepted sheetLayout s → (k : Configuration) (e : Event) → length (k .variables) ≡ commonOf s .monitors

@@ -42,7 +42,7 @@ pub(crate) fn refusal(
     event: Record,
     values: &[u32],
 ) -> u8
-    requires { ⌜ Prepared (now s) t (now conditions) (now actions) ⌝ }
+    requires { ⌜ Prepared (now s) t (now conditions) (now actions) × Ready (now s) state ⌝ }
     ensures { λ r. ⌜ r ≡ Monitor.refusal (sheetOf (now (s .entry))) (view (sheetOf (now (s .entry))) state) (eventOf event (now (values .entry))) ⌝ }
 {
     let h = t.header;
