@@ -7,12 +7,17 @@ use native.Mathlib.Omega.{arith}
 use borrow.Author.Tests.{eq-eqb, ne-eqb}
 use lib.ListN.{length, take}
 use Rattle.sheet.specs.declared.Record.{Record}
+use Rattle.sheet.specs.declared.Header.{Header}
+use Rattle.sheet.specs.declared.LogReading.{LogReading}
+use Rattle.sheet.specs.declared.LogReading.the-variants as log
 use Rattle.sheet.specs.declared.Reading.{Reading}
 use Rattle.sheet.specs.declared.Reading.the-variants.{Accepted, Refused}
 use Rattle.sheet.specs.Table.{fit}
 use Rattle.sheet.specs.Decode.{commonOf, sheetOf}
 use Rattle.sheet.specs.Reading.{reading, sheetLayout}
-use Rattle.sheet.specs.Answer.{answer}
+use Rattle.sheet.specs.Bytes.{byte}
+use Rattle.sheet.specs.Log.{logReading, recordsIn, eventsOf}
+use Rattle.sheet.specs.Answer.{answer, logAnswer, headerOf}
 use Rattle.step.specs.declared.Call.{Call}
 use Rattle.step.specs.declared.Answer.{Answer}
 use Rattle.step.specs.declared.Answer.the-variants as offer
@@ -29,7 +34,7 @@ use Rattle.monitor.specs.Monitor as Monitor
 use Rattle.monitor.specs.Padded.{zeroArms, pad, view, soundState}
 use Rattle.step.specs.Padding.{zeroCall}
 use Rattle.step.specs.Answers.{answerOf}
-use Rattle.monitor.specs.Answers.{offerRefusal, whenTaken, offerOf, runOf}
+use Rattle.monitor.specs.Answers.{offerRefusal, whenTaken, offerOf, ranAnswer, unlessRefused, runOf}
 use Rattle.monitor.specs.Walk.{Prepared, Ready}
 use Rattle.monitor.proofs.Calls.{free, offer-taken}
 use Rattle.monitor.proofs.Views.{view-calls}
@@ -134,3 +139,36 @@ module _ (s : List ℕ) (r : Reading) (er : r ≡ answer (reading sheetLayout s)
   run-unread n h log =
       let (m, f, e) = refused-number n h in
       rw f (ap asRun e)
+
+-- a log that is read, or not
+abbrev isRecords : LogReading → Bool
+isRecords (log.Records n) = true
+isRecords (log.Refused n) = false
+
+abbrev asLogged : LogReading → RunAnswer
+asLogged (log.Records n) = run.Refused 0
+asLogged (log.Refused n) = run.Refused n
+
+module _ (s l : List ℕ) (h : Header) (eh : h ≡ headerOf s) (r : LogReading) (er : r ≡ logAnswer (logReading (h .programs) l) (recordsIn (h .programs) l)) where
+  answered : r ≡ logAnswer (logReading (byte s 5) l) (recordsIn (byte s 5) l)
+  answered = er ∙ ap (λ (x : Header). logAnswer (logReading (x .programs) l) (recordsIn (x .programs) l)) eh
+
+  pub log-read : (n : ℕ) → r ≡ log.Records n → logReading (byte s 5) l ≡ 0
+  log-read n e = go (logReading (byte s 5) l) (sym answered ∙ e)
+    where
+      go : (m : ℕ) → logAnswer m (recordsIn (byte s 5) l) ≡ log.Records n → m ≡ 0
+      go zero e = refl
+      go (suc m) e = absurd (false≢true (ap isRecords e))
+
+  module _ (a : reading sheetLayout s ≡ 0) where
+    pub run-follows : (n : ℕ) → r ≡ log.Records n → (x : RunAnswer) → x ≡ ranAnswer (Monitor.run (sheetOf s) (eventsOf (byte s 5) l)) → x ≡ runOf s l
+    unfolding runOf
+    run-follows n e x f = rw (a, log-read n e) f
+
+    pub run-unlogged : (n : ℕ) → r ≡ log.Refused n → run.Refused n ≡ runOf s l
+    unfolding runOf
+    run-unlogged n e = rw a (go (logReading (byte s 5) l) (sym answered ∙ e))
+      where
+        go : (m : ℕ) → logAnswer m (recordsIn (byte s 5) l) ≡ log.Refused n → run.Refused n ≡ unlessRefused m (ranAnswer (Monitor.run (sheetOf s) (eventsOf (byte s 5) l)))
+        go zero e = absurd (false≢true (sym (ap isRecords e)))
+        go (suc m) e = ap asLogged (sym e)
