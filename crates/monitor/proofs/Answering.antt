@@ -54,7 +54,7 @@ ready-rows {s} {w} r =
     sym e ∙ length-fit 16 zeroCall _ ∙ sym (length-fit 16 zeroArms _) ∙ f
 
 -- The refusals of an event, from the calls of a state.
-pub refusal-there : {s : List ℕ} {t : Tables} {c i : List ℕ} (p : Prepared s t c i) (w : WatchState) → Ready s w → (event : Record) (values : List ℕ)
+pub refusal-there : {s : List ℕ} {t : Tables} {c : List ℕ} (p : Prepared s t c) (w : WatchState) → Ready s w → (event : Record) (values : List ℕ)
     → (b : Bool) → b ≡ Monitor.isJudged (verdictIn (w .outcome)) → (n : ℕ) → n ≡ w .opened
     → (x : ℕ) → x ≡ lowest (refusalsFor (t .header .units) (t .header .programs) b (w .position) (map (unpad (t .header .programs)) (take n (w .calls))) (eventOf event values))
     → x ≡ Monitor.refusal (sheetOf s) (view (sheetOf s) w) (eventOf event values)

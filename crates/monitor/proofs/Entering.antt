@@ -78,7 +78,7 @@ callOf number unit kept = record { number = number; unit = unit; kept = kept }
 abbrev pub stateOf : ℕ → List ℕ → ℕ → List Call → List Arms → ℕ → Outcome → WatchState
 stateOf main variables opened calls arms position outcome = record { main = main; variables = variables; opened = opened; calls = calls; arms = arms; position = position; outcome = outcome }
 
-module _ {s : List ℕ} {t : Tables} {c i : List ℕ} (p : Prepared s t c i) (w : WatchState) (r : Ready s w) (event : Record) (values : List ℕ) (z : refusal (sheetOf s) (view (sheetOf s) w) (eventOf event values) ≡ 0) where
+module _ {s : List ℕ} {t : Tables} {c : List ℕ} (p : Prepared s t c) (w : WatchState) (r : Ready s w) (event : Record) (values : List ℕ) (z : refusal (sheetOf s) (view (sheetOf s) w) (eventOf event values) ≡ 0) where
   there : Accepted sheetLayout s
   there = accepted sheetLayout s (p .accepted)
 

@@ -57,7 +57,7 @@ log-filled P log h =
     whole-length (length log) (recordSize P * ((length log - 6) / recordSize P)) a (ap (λ k. recordSize P * ((length log - 6) / recordSize P) + k) (sym c) ∙ div-add-mod (length log - 6) (recordSize P))
 
 -- how many bytes a record has, and how many values
-module _ {s : List ℕ} {t : Tables} {c i : List ℕ} (p : Prepared s t c i) (n : ℕ) (e : n ≡ t .header .programs) where
+module _ {s : List ℕ} {t : Tables} {c : List ℕ} (p : Prepared s t c) (n : ℕ) (e : n ≡ t .header .programs) where
   pub values-count : n ≡ byte s 5
   values-count = e ∙ ap (λ (x : Tables). x .header .programs) (p .tables)
 

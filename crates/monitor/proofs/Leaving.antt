@@ -320,7 +320,7 @@ module _ {s : List ℕ} (a : Accepted sheetLayout s) (σ : State) (e : Event) (h
       }
 
 -- The same on a state as it is held, with what the calls answer.
-module _ {s : List ℕ} {t : Tables} {c i : List ℕ} (p : Prepared s t c i) {w : WatchState} (r : Ready s w) (event : Record) (values : List ℕ)
+module _ {s : List ℕ} {t : Tables} {c : List ℕ} (p : Prepared s t c) {w : WatchState} (r : Ready s w) (event : Record) (values : List ℕ)
     (z : refusal (sheetOf s) (view (sheetOf s) w) (eventOf event values) ≡ 0) (x : event .kind ≡ 1) where
   abbrev e : Event
   e = eventOf event values

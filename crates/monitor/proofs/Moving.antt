@@ -35,7 +35,7 @@ use Rattle.monitor.specs.declared.event.Tables.{Tables}
 use Rattle.monitor.specs.declared.WatchState.{WatchState}
 use Rattle.monitor.specs.Monitor.{refusal}
 use Rattle.monitor.specs.Padded.{view}
-use Rattle.monitor.specs.Walk.{tablesOf, Prepared, movedTo}
+use Rattle.monitor.specs.Walk.{tablesOf, Prepared, actionsOf, movedTo}
 use Rattle.monitor.proofs.Calls.{free}
 use Rattle.monitor.proofs.Soundness.{among-at, moved-variables}
 use Rattle.monitor.proofs.Views.{take-fitted, behind-fit}
@@ -61,7 +61,7 @@ module _ {s : List ℕ} (a : Accepted sheetLayout s) (main : ℕ) (variables : L
       ap (λ l. record { main = t .to; variables = l }) (action-acts a (omega arith) (t .action) b (e .values) variables p m) ∙ ap (padded s variables (held s main variables) e) h
 
 -- from the tables and indexes that are lent
-module _ {s : List ℕ} {t : Tables} {c i : List ℕ} (p : Prepared s t c i) where
+module _ {s : List ℕ} {t : Tables} {c : List ℕ} (p : Prepared s t c) where
   pub monitors-few : t .header .monitors ≤ 4
   unfolding commonOf
   monitors-few = rw (p .tables) (bounds (accepted sheetLayout s (p .accepted)) .monitors)
@@ -70,17 +70,17 @@ module _ {s : List ℕ} {t : Tables} {c i : List ℕ} (p : Prepared s t c i) whe
   unfolding commonOf
   programs-few = rw (p .tables) (bounds (accepted sheetLayout s (p .accepted)) .programs)
 
-  pub moved-there : (main : ℕ) (variables : List ℕ) (event : Record) (values : List ℕ) (count : ℕ) (f : Found) (r : Moved) → length values ≡ byte s 5 → length variables ≡ 4 → count ≡ t .header .monitors
+  pub moved-there : {i : List ℕ} → i ≡ actionsOf s → (main : ℕ) (variables : List ℕ) (event : Record) (values : List ℕ) (count : ℕ) (f : Found) (r : Moved) → length values ≡ byte s 5 → length variables ≡ 4 → count ≡ t .header .monitors
       → f ≡ firstPlace (enabledAt s c (record { from = main; kind = event .kind; unit = event .unit }) (environment values (take count variables) [])) (baseForm false) (t .header .transitions) s (t .transitions)
       → r ≡ movedAt s i f values main variables count → r ≡ movedTo s main variables (eventOf event values)
   unfolding commonOf
-  moved-there main variables event values count f r v l n h k =
+  moved-there q main variables event values count f r v l n h k =
       let a = accepted sheetLayout s (p .accepted) in
       let e = eventOf event values in
       let few : commonOf s .monitors ≤ length variables = omega (arith, bounds a .monitors) in
       let k₀ = held s main variables in
       let there : foundAt s f ≡ first (enabled (commonOf s) k₀ e) (transitionsOf sheetLayout s) = rw (h, n, p .tables, p .conditions) (first-enabled-sheet a k₀ e v (length-take-le (commonOf s .monitors) variables few)) in
-      rw (k, n, p .tables, p .actions) (taken-moves a main variables e v few f there)
+      rw (k, n, p .tables, q) (taken-moves a main variables e v few f there)
 
 -- The tables begin within the longest sheet, so their places are words of 16 bits.
 pub table-places : {s : List ℕ} → Accepted sheetLayout s → (transitionsAt s < 65536) × (lastAt transitionForm s < 65536)
@@ -98,8 +98,11 @@ module _ (s : List ℕ) (h : reading sheetLayout s ≡ 0) (q : Places) (e : q �
   pub places-fit : (q .transitions < 65536) × (q .last < 65536)
   places-fit = rw e (table-places (accepted sheetLayout s h))
 
-  pub prepared-with : (x : Header) → x ≡ headerOf s → (t : Tables) → t ≡ tablesWith x (q .transitions) (q .last) → Prepared s t (q .conditions) (q .actions)
-  prepared-with x f t g = record { accepted = h; tables = rw (g, f, e); conditions = ap (λ (p : Places). p .conditions) e; actions = ap (λ (p : Places). p .actions) e }
+  pub prepared-with : (x : Header) → x ≡ headerOf s → (t : Tables) → t ≡ tablesWith x (q .transitions) (q .last) → Prepared s t (q .conditions)
+  prepared-with x f t g = record { accepted = h; tables = rw (g, f, e); conditions = ap (λ (p : Places). p .conditions) e }
+
+  pub actions-there : q .actions ≡ actionsOf s
+  actions-there = ap (λ (p : Places). p .actions) e
 
 -- The variables after an event, with their room behind them.
 pub moved-fits : {s : List ℕ} → Accepted sheetLayout s → (k : Configuration) (e : Event) → length (k .variables) ≡ commonOf s .monitors

@@ -24,17 +24,26 @@ use Rattle.monitor.specs.Padded.{pad, view}
 abbrev pub tablesOf : List ℕ → Tables
 tablesOf s = record { header = headerOf s; transitions = transitionsAt s; triples = lastAt transitionForm s }
 
--- An accepted sheet, with its tables and indexes.
-pub record Prepared (s : List ℕ) (t : Tables) (c a : List ℕ) : Type 0 where
+-- An accepted sheet, with its tables and the index of its conditions.
+pub record Prepared (s : List ℕ) (t : Tables) (c : List ℕ) : Type 0 where
   pub accepted : reading sheetLayout s ≡ 0
   pub tables : t ≡ tablesOf s
   pub conditions : c ≡ placesOf sheetLayout s .conditions
-  pub actions : a ≡ placesOf sheetLayout s .actions
+
+-- the index of its actions
+abbrev pub actionsOf : List ℕ → List ℕ
+actionsOf s = placesOf sheetLayout s .actions
 
 -- A sound state.
 pub record Ready (s : List ℕ) (w : WatchState) : Type 0 where
   pub sound : sound (sheetOf s) (view (sheetOf s) w) ≡ true
   pub padded : pad (view (sheetOf s) w) ≡ w
+
+-- An event that is not refused.
+pub record Unrefused (s : List ℕ) (t : Tables) (c : List ℕ) (w : WatchState) (e : Event) : Type 0 where
+  pub prepared : Prepared s t c
+  pub ready : Ready s w
+  pub free : refusal (sheetOf s) (view (sheetOf s) w) e ≡ 0
 
 -- the main state and the variables after an event, with what stands behind the variables
 abbrev pub movedFrom : List ℕ → ℕ → List ℕ → Event → Configuration

@@ -15,7 +15,7 @@ ghost use Rattle.step.specs.Verdicts.{verdictIn};
 ghost use Rattle.step.specs.Walk.{eventOf};
 ghost use Rattle.monitor.specs.Monitor as Monitor;
 ghost use Rattle.monitor.specs.Padded.{zeroArms, padArms, pad, view};
-ghost use Rattle.monitor.specs.Walk.{Prepared, Ready, movedTo, armsAt, failsAt, leastOf, keepBeside};
+ghost use Rattle.monitor.specs.Walk.{Prepared, Ready, Unrefused, actionsOf, movedTo, armsAt, failsAt, leastOf, keepBeside};
 use crate::Arms;
 use crate::WatchState;
 use sheet::Header;
@@ -37,12 +37,11 @@ pub(crate) fn refusal(
     s: &[u8],
     t: Tables,
     conditions: &[u32; 65],
-    actions: &[u32; 65],
     state: WatchState,
     event: Record,
     values: &[u32],
 ) -> u8
-    requires { ⌜ Prepared (now s) t (now conditions) (now actions) × Ready (now s) state ⌝ }
+    requires { ⌜ Prepared (now s) t (now conditions) × Ready (now s) state ⌝ }
     ensures { λ r. ⌜ r ≡ Monitor.refusal (sheetOf (now (s .entry))) (view (sheetOf (now (s .entry))) state) (eventOf event (now (values .entry))) ⌝ }
 {
     let h = t.header;
@@ -79,13 +78,24 @@ pub(crate) fn taken(
     event: Record,
     values: &[u32],
 ) -> WatchState
-    requires { ⌜ Prepared (now s) t (now conditions) (now actions) × Ready (now s) state × (Monitor.refusal (sheetOf (now s)) (view (sheetOf (now s)) state) (eventOf event (now values)) ≡ 0) ⌝ }
+    requires { ⌜ Unrefused (now s) t (now conditions) state (eventOf event (now values)) × (now actions ≡ actionsOf (now s)) ⌝ }
     ensures { λ r. ⌜ r ≡ pad (Monitor.offer (sheetOf (now (s .entry))) (view (sheetOf (now (s .entry))) state) (eventOf event (now (values .entry))) .state) ⌝ }
 {
+    let variables = state.variables;
+    let to = moved(
+        s,
+        t,
+        conditions,
+        actions,
+        state.main,
+        variables,
+        event,
+        values,
+    );
     if event.kind == 0 {
-        entered(s, t, conditions, actions, state, event, values)
+        entered(s, t, conditions, to, state, event, values)
     } else {
-        exited(s, t, conditions, actions, state, event, values)
+        exited(s, t, conditions, to, state, event, values)
     }
 }
 
@@ -94,38 +104,20 @@ fn entered(
     s: &[u8],
     t: Tables,
     conditions: &[u32; 65],
-    actions: &[u32; 65],
+    to: Moved,
     state: WatchState,
     event: Record,
     values: &[u32],
 ) -> WatchState
-    requires { ⌜ Prepared (now s) t (now conditions) (now actions) × Ready (now s) state × (Monitor.refusal (sheetOf (now s)) (view (sheetOf (now s)) state) (eventOf event (now values)) ≡ 0) × (event .kind ≡ 0) ⌝ }
+    requires { ⌜ Unrefused (now s) t (now conditions) state (eventOf event (now values)) × (event .kind ≡ 0) × (to ≡ movedTo (now s) (state .main) (state .variables) (eventOf event (now values))) ⌝ }
     ensures { λ r. ⌜ r ≡ pad (Monitor.entered (sheetOf (now (s .entry))) (view (sheetOf (now (s .entry))) state) (eventOf event (now (values .entry)))) ⌝ }
 {
     let h = t.header;
-    let variables = state.variables;
+    let held = state.main;
+    let arms = arm(s, t.triples, h.last, held, event.unit, conditions, values);
     let calls = state.calls;
     let row = state.arms;
-    let moved = moved(
-        s,
-        t,
-        conditions,
-        actions,
-        state.main,
-        variables,
-        event,
-        values,
-    );
-    let arms = arm(
-        s,
-        t.triples,
-        h.last,
-        state.main,
-        event.unit,
-        conditions,
-        values,
-    );
-    let after = moved.variables;
+    let after = to.variables;
     let opened = wide(state.opened);
     let call = Call {
         number: event.number,
@@ -134,13 +126,13 @@ fn entered(
     };
     let position = state.position + 1;
     WatchState {
-        main: moved.main,
+        main: to.main,
         variables: after,
         opened: state.opened + 1,
         calls: step::rows::with_call(calls, opened, call),
         arms: with_arms(row, opened, arms),
         position,
-        outcome: step::outcomes::outcome(h.bad, position, moved.main, 256),
+        outcome: step::outcomes::outcome(h.bad, position, to.main, 256),
     }
 }
 
@@ -149,41 +141,30 @@ fn exited(
     s: &[u8],
     t: Tables,
     conditions: &[u32; 65],
-    actions: &[u32; 65],
+    to: Moved,
     state: WatchState,
     event: Record,
     values: &[u32],
 ) -> WatchState
-    requires { ⌜ Prepared (now s) t (now conditions) (now actions) × Ready (now s) state × (Monitor.refusal (sheetOf (now s)) (view (sheetOf (now s)) state) (eventOf event (now values)) ≡ 0) × (event .kind ≡ 1) ⌝ }
+    requires { ⌜ Unrefused (now s) t (now conditions) state (eventOf event (now values)) × (event .kind ≡ 1) × (to ≡ movedTo (now s) (state .main) (state .variables) (eventOf event (now values))) ⌝ }
     ensures { λ r. ⌜ r ≡ pad (Monitor.exited (sheetOf (now (s .entry))) (view (sheetOf (now (s .entry))) state) (eventOf event (now (values .entry)))) ⌝ }
 {
     let h = t.header;
-    let variables = state.variables;
     let calls = state.calls;
     let row = state.arms;
-    let moved = moved(
-        s,
-        t,
-        conditions,
-        actions,
-        state.main,
-        variables,
-        event,
-        values,
-    );
-    let after = moved.variables;
+    let after = to.variables;
     let opened = wide(state.opened);
     let place = step::call_place(calls, opened, event.number);
     let low = judged(s, t, conditions, calls[place], row[place], values);
     let position = state.position + 1;
     WatchState {
-        main: moved.main,
+        main: to.main,
         variables: after,
         opened: state.opened - 1,
         calls: step::rows::without_call(calls, opened, event.number),
         arms: without_arms(calls, row, opened, event.number),
         position,
-        outcome: step::outcomes::outcome(h.bad, position, moved.main, low),
+        outcome: step::outcomes::outcome(h.bad, position, to.main, low),
     }
 }
 
@@ -198,7 +179,7 @@ fn moved(
     event: Record,
     values: &[u32],
 ) -> Moved
-    requires { ⌜ Prepared (now s) t (now conditions) (now actions) × (length (now values) ≡ byte (now s) 5) ⌝ }
+    requires { ⌜ Prepared (now s) t (now conditions) × (now actions ≡ actionsOf (now s)) × (length (now values) ≡ byte (now s) 5) ⌝ }
     ensures { λ r. ⌜ r ≡ movedTo (now (s .entry)) main variables (eventOf event (now (values .entry))) ⌝ }
 {
     let h = t.header;

@@ -11,7 +11,7 @@ ghost use Rattle.step.specs.Walk.{eventOf};
 ghost use Rattle.monitor.specs.Monitor as Monitor;
 ghost use Rattle.monitor.specs.Answers.{ranAnswer, offerOf, runOf};
 ghost use Rattle.monitor.specs.Padded.{soundState};
-ghost use Rattle.monitor.specs.Walk.{Prepared, Ready};
+ghost use Rattle.monitor.specs.Walk.{Prepared, Ready, actionsOf};
 use crate::Offered;
 use crate::WatchState;
 use crate::event;
@@ -53,10 +53,10 @@ fn offer_sound(
     event: Record,
     values: &[u32],
 ) -> Offered
-    requires { ⌜ Prepared (now s) t (now conditions) (now actions) × Ready (now s) state × (soundState (sheetOf (now s)) state ≡ true) ⌝ }
+    requires { ⌜ Prepared (now s) t (now conditions) × (now actions ≡ actionsOf (now s)) × Ready (now s) state × (soundState (sheetOf (now s)) state ≡ true) ⌝ }
     ensures { λ r. ⌜ r ≡ offerOf (now (s .entry)) state (eventOf event (now (values .entry))) ⌝ }
 {
-    let n = event::refusal(s, t, conditions, actions, state, event, values);
+    let n = event::refusal(s, t, conditions, state, event, values);
     if n == 0 {
         Offered {
             answer: Answer::Taken,
@@ -89,7 +89,7 @@ pub(crate) fn run_accepted(s: &[u8], log: &[u8]) -> RunAnswer
 
 // Follows the records of a log from the fresh state.
 fn follow(s: &[u8], t: Tables, conditions: &[u32; 65], actions: &[u32; 65], log: &[u8]) -> RunAnswer
-    requires { ⌜ Prepared (now s) t (now conditions) (now actions) × (logReading (byte (now s) 5) (now log) ≡ 0) ⌝ }
+    requires { ⌜ Prepared (now s) t (now conditions) × (now actions ≡ actionsOf (now s)) × (logReading (byte (now s) 5) (now log) ≡ 0) ⌝ }
     ensures { λ r. ⌜ r ≡ ranAnswer (Monitor.run (sheetOf (now (s .entry))) (eventsOf (byte (now (s .entry)) 5) (now (log .entry)))) ⌝ }
 {
     let h = t.header;
@@ -103,7 +103,7 @@ fn follow(s: &[u8], t: Tables, conditions: &[u32; 65], actions: &[u32; 65], log:
         let event = sheet::record_at(log, at);
         let words = sheet::words_at(log, at + 4, h.programs);
         let values = &words[..count];
-        let number = event::refusal(s, t, conditions, actions, state, event, values);
+        let number = event::refusal(s, t, conditions, state, event, values);
         i += 1;
         if number == 0 {} else {
             return RunAnswer::RefusedAt(number, i);

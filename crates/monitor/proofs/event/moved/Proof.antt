@@ -27,7 +27,7 @@ returns c =
     let b = c .before .before .before .before .before .before .before in
     let a = b .args in
     let l : length (a .t6) ≡ 4 = search (needs, b .good .1 .1 .1 .1 .1) in
-    moved-there (b .pre .0) (a .main) (a .t6) (a .event) (a .values .now) _ _ _ (b .pre .1) l (c .before .before .before .wide .ensures .0) (c .before .first-enabled .ensures) (c .take-transition .ensures)
+    moved-there (b .pre .0) (b .pre .1) (a .main) (a .t6) (a .event) (a .values .now) _ _ _ (b .pre .2) l (c .before .before .before .wide .ensures .0) (c .before .first-enabled .ensures) (c .take-transition .ensures)
 
 pub moved-spec : {M : Type 1} → statement M
 moved-spec = tie.close (tie.spec (λ c κs. search needs) array-share-prefix-variables slice-aggregate-first-enabled (λ c κs. search needs) (λ c κs. search needs) returns)

@@ -24,7 +24,7 @@ loop-holds c =
     let p = b .pre in
     let a = accepted sheetLayout (b .args .s .now) (p .0 .accepted) in
     let small : c .before .word-at .result < 4294967296 = search needs in
-    follow-start a (b .args .log .now) (p .1) _ (c .started .ensures) _ (c .before .word-at .ensures) small
+    follow-start a (b .args .log .now) (p .2) _ (c .started .ensures) _ (c .before .word-at .ensures) small
 
 add-words-at : tie.Need-add-words-at Inv-loop μ-loop
 add-words-at c =
@@ -81,7 +81,7 @@ taken-requires c κs =
     let b = c .before .before .before .before .before .before .before .before .before .before .before .before .before .before in
     let p = b .pre in
     let a = accepted sheetLayout (b .args .s .now) (p .0 .accepted) in
-    (p .0, follow-ready a (b .args .log .now) _ _ _ _ (c .before .before .before .before .before .before .loop .inv), sym (c .before .refusal .ensures) ∙ c .if1 .taken)
+    (record { prepared = p .0; ready = follow-ready a (b .args .log .now) _ _ _ _ (c .before .before .before .before .before .before .loop .inv); free = sym (c .before .refusal .ensures) ∙ c .if1 .taken }, p .1)
 
 returns-2 : tie.Need-returns-2 Inv-loop μ-loop
 returns-2 c =

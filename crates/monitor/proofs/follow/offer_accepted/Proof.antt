@@ -2,7 +2,7 @@
 use mathlib.Core.Path.{sym, _∙_}
 use Rattle.sheet.specs.Reading.{sheetLayout}
 use Rattle.sheet.proofs.Accepted.{accepted}
-use Rattle.monitor.proofs.Moving.{places-fit, prepared-with}
+use Rattle.monitor.proofs.Moving.{places-fit, prepared-with, actions-there}
 use Rattle.monitor.proofs.Views.{ready-sound}
 use Rattle.monitor.proofs.Answering.{unsound}
 use borrow.Author.Needs.{needs}
@@ -23,7 +23,7 @@ offer-sound-requires c κs =
     let h = b .pre in
     let a = b .args in
     let e = sym (c .before .before .before .sound .ensures) ∙ c .before .before .if1 .taken in
-    (prepared-with _ h _ (c .before .before .before .before .before .before .before .before .sheet-places .ensures) _ (c .before .before .before .before .before .header-of .ensures) _ (c .before .before .before .before .tables .ensures), ready-sound (accepted sheetLayout (a .s .now) h) (a .state) e, e)
+    (prepared-with _ h _ (c .before .before .before .before .before .before .before .before .sheet-places .ensures) _ (c .before .before .before .before .before .header-of .ensures) _ (c .before .before .before .before .tables .ensures), actions-there _ h _ (c .before .before .before .before .before .before .before .before .sheet-places .ensures), ready-sound (accepted sheetLayout (a .s .now) h) (a .state) e, e)
 
 returns-2 : tie.Need-returns-2
 returns-2 c =

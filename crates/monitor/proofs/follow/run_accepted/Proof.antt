@@ -1,5 +1,5 @@
 -- `follow::run_accepted` meets its contract. Assumes nothing.
-use Rattle.monitor.proofs.Moving.{places-fit, prepared-with}
+use Rattle.monitor.proofs.Moving.{places-fit, prepared-with, actions-there}
 use Rattle.monitor.proofs.Answering.{log-read, run-follows, run-unlogged}
 use borrow.Author.Needs.{needs}
 use Rattle.monitor.proofs.follow.run_accepted.Statement.{statement}
@@ -11,7 +11,7 @@ tables-requires c κs = places-fit _ (c .before .before .before .before .before 
 follow-requires : tie.Need-follow-requires
 follow-requires c κs =
     let b = c .before .before .before .before .before .before .before .before .before .before .before .before in
-    (prepared-with _ (b .pre) _ (c .before .before .before .before .before .sheet-places .ensures) _ (c .before .before .before .before .before .before .before .before .before .header-of .ensures) _ (c .before .before .tables .ensures), log-read (b .args .s .now) (b .args .log .now) _ (c .before .before .before .before .before .before .before .before .before .header-of .ensures) _ (c .before .before .before .before .before .before .before .before .read-log .ensures) _ (c .before .before .before .before .before .before .enum-told .given .1))
+    (prepared-with _ (b .pre) _ (c .before .before .before .before .before .sheet-places .ensures) _ (c .before .before .before .before .before .before .before .before .before .header-of .ensures) _ (c .before .before .tables .ensures), actions-there _ (b .pre) _ (c .before .before .before .before .before .sheet-places .ensures), log-read (b .args .s .now) (b .args .log .now) _ (c .before .before .before .before .before .before .before .before .before .header-of .ensures) _ (c .before .before .before .before .before .before .before .before .read-log .ensures) _ (c .before .before .before .before .before .before .enum-told .given .1))
 
 returns : tie.Need-returns
 returns c =
