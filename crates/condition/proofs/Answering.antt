@@ -3,18 +3,18 @@ use mathlib.Core.Path.{_≡_, refl, sym, ap, _∙_}
 use mathlib.Core.Bool.{Bool, true, false, not, cond, _&&_}
 use mathlib.Core.Option.{Option, none, some}
 use mathlib.Core.List.{List, [], _∷_}
-use Prim.Native.Nat.{ℕ, zero, suc, _+_, _-_, _≤_, _<_}
+use Prim.Native.Nat.{ℕ, _+_, _≤_, _<_}
 use native.Mathlib.Omega.{arith}
-use borrow.Author.Tests.{leb-true, leb-false, le-leb, lt-leb, eq-eqb, ne-eqb, eqb-true, eqb-false}
+use borrow.Author.Tests.{leb-true, le-leb, lt-leb, eq-eqb, ne-eqb, eqb-true, eqb-false}
 use lib.Dec.{leb, eqb}
 use lib.ListN.{length, drop, length-drop}
 use lib.Seq.{drop-length}
 use Rattle.condition.specs.declared.Lent.{Lent}
-use Rattle.condition.specs.Tree.{Condition, Value, conditionNames, actionNames, isMonitor, isAtEntry}
+use Rattle.condition.specs.Tree.{conditionNames, actionNames, isMonitor, isAtEntry}
 use Rattle.condition.specs.Parse.{Parsed, malformed, parsed, Reader, exactly, parseCondition, parseValue, parseAction}
-use Rattle.condition.specs.Meaning.{Environment, lent, holds, word}
-use Rattle.condition.specs.Answer.{Outcome, refused, given, sized, longest, judged, conditionOutcome, valueOutcome, runOutcome, actionOutcome, actionPaper, whether, conditionWhich, actionWhich}
-use Rattle.condition.specs.Walk.{bit, Ends, Skips, Gives, Means, Evaluates, conditionReader, valueReader, conditionBit, valueWord}
+use Rattle.condition.specs.Meaning.{Environment, lent, holds}
+use Rattle.condition.specs.Answer.{refused, given, sized, longest, conditionOutcome, valueOutcome, runOutcome, actionOutcome, whether, conditionWhich, actionWhich}
+use Rattle.condition.specs.Walk.{bit, Ends, Skips, Means, conditionReader, valueReader, conditionBit, valueWord}
 use Rattle.condition.proofs.Naming.{unkept, unmonitored, entry-narrow, monitor-narrow, action-entry-narrow}
 use Rattle.condition.proofs.Evaluating.{EvaluatesCondition, EvaluatesValue}
 

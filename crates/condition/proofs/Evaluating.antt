@@ -1,16 +1,15 @@
 -- What a condition or a value means, from what its operands mean. Assumes nothing.
 use mathlib.Core.Path.{_≡_, refl, sym, ap, subst, _∙_}
-use mathlib.Core.Bool.{Bool, true, false, not, cond}
+use mathlib.Core.Bool.{Bool, true, false, not}
 use mathlib.Core.Logic.{_⊎_}
-use mathlib.Core.List.{List, [], _∷_}
+use mathlib.Core.List.{List}
 use Prim.Native.Nat.{ℕ, _+_, _-_, _/_, _%_, _^_, _≤_, _<_}
 use native.Mathlib.Omega.{arith}
 use borrow.Author.Tests.{leb-true, leb-false, ltb-true, ltb-false}
-use lib.Dec.{leb, ltb, eqb}
+use lib.Dec.{leb, ltb}
 use lib.ListN.{length, getD, drop}
-use Rattle.condition.specs.declared.Lent.{Lent}
 use Rattle.condition.specs.Word.{plusWord, minusWord, lessWord, equalWord, withinWord}
-use Rattle.condition.specs.Tree.{Variable, program, monitor, atEntry, Condition, always, negation, both, either, less, equal, within, Value, constant, variable, plus, minus, choose}
+use Rattle.condition.specs.Tree.{Variable, program, monitor, atEntry, Condition, negation, both, either, less, equal, within, Value, plus, minus, choose}
 use Rattle.condition.specs.Parse.{Parsed, malformed, parsed, Reader, andThen, one, two, three, isLent, literal, numbered, ConditionOperator, opTrue, opNot, opAnd, opOr, opLess, opEqual, opWithin, noCondition, conditionOperator, conditionWith, ValueOperator, opConstant, opProgram, opMonitor, opAtEntry, opPlus, opMinus, opChoose, noValue, valueOperator, valueWith}
 use Rattle.condition.specs.Meaning.{Environment, lent, valueOf, holds, word}
 use Rattle.condition.specs.Walk.{bit, Ends, Skips, Gives, Means, Evaluates, conditionReader, valueReader, conditionBit, valueWord, Judged, Packed, literalEnd, variableEnd, literalAt, variableAt, negated, WordTried, LeafEvaluated}

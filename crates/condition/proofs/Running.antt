@@ -1,21 +1,20 @@
 -- Runs of assignments, from place to place. Assumes nothing.
 use mathlib.Core.Path.{_≡_, refl, sym, ap, subst, _∙_}
-use mathlib.Core.Bool.{Bool, true, false, cond}
+use mathlib.Core.Bool.{Bool, true, false}
 use mathlib.Core.Option.{Option, none, some}
-use mathlib.Core.List.{List, [], _∷_, _++_}
+use mathlib.Core.List.{List, [], _++_}
 use Prim.Native.Nat.{ℕ, zero, suc, _+_, _-_, min, _≤_, _<_}
 use native.Mathlib.Omega.{arith}
 use borrow.Author.Tests.{lt-ltb, le-ltb, eqb-true, eqb-false}
 use lib.Dec.{eqb}
 use lib.ListN.{length, getD, set, take, drop, length-set, length-take, drop-of-length-le, take-append-drop}
-use lib.Seq.{drop-length, take-set-lt, drop-set-lt}
+use lib.Seq.{take-set-lt, drop-set-lt}
 use Rattle.condition.specs.declared.Lent.{Lent}
 use Rattle.condition.specs.declared.ActionAnswer.the-variants as action
-use Rattle.condition.specs.declared.Performed.{Performed}
-use Rattle.condition.specs.Tree.{Value, Assignment}
-use Rattle.condition.specs.Parse.{Parsed, malformed, parsed, valueFrom, one, assignmentFrom, prefixed, thenRun, runFrom, parseAction}
+use Rattle.condition.specs.Tree.{Assignment}
+use Rattle.condition.specs.Parse.{Parsed, malformed, parsed, one, assignmentFrom, prefixed, thenRun, runFrom, parseAction}
 use Rattle.condition.specs.Meaning.{Environment, environment, lent, word, assigned, performed}
-use Rattle.condition.specs.Answer.{Outcome, refused, given, judged, runOutcome, actionPaper, whether}
+use Rattle.condition.specs.Answer.{Outcome, judged, runOutcome, actionPaper, whether}
 use Rattle.condition.specs.Walk.{Ends, Skips, Gives, valueReader, SkipsAssignment, Assigns}
 use Rattle.condition.proofs.Walking.{open-at, ends-one}
 use Rattle.condition.proofs.Evaluating.{EvaluatesValue, gives-one, gives-any}

@@ -14,7 +14,7 @@ use lib.Seq.{drop-cons}
 use Rattle.condition.specs.declared.Lent.{Lent}
 use Rattle.condition.specs.Tree.{Variable, program, monitor, atEntry, Condition, negation, both, either, less, equal, within, Value, constant, variable, plus, minus, choose}
 use Rattle.condition.specs.Parse.{isLent, literal, numbered, Parsed, malformed, parsed, Reader, andThen, one, two, three, ConditionOperator, opTrue, opNot, opAnd, opOr, opLess, opEqual, opWithin, noCondition, conditionOperator, conditionWith, ValueOperator, opConstant, opProgram, opMonitor, opAtEntry, opPlus, opMinus, opChoose, noValue, valueOperator, valueWith, conditionFrom, valueFrom}
-use Rattle.condition.specs.Walk.{Ends, Skips, Gives, conditionReader, valueReader, literalEnd, variableEnd, Tried, EndTried, LeafSkipped}
+use Rattle.condition.specs.Walk.{Ends, Skips, conditionReader, valueReader, literalEnd, variableEnd, Tried, EndTried, LeafSkipped}
 
 pub open-at : (s : List ℕ) (at : ℕ) → at < length s → drop at s ≡ getD s at 0 ∷ drop (at + 1) s
 open-at s at h = rw add-one (drop-cons s at 0 h)

@@ -1,21 +1,20 @@
 -- The answers of the crate's operations (document 01, "What each operation turns away").
-use mathlib.Core.Bool.{Bool, true, false, not, cond, _&&_}
+use mathlib.Core.Bool.{Bool, false, cond, _&&_}
 use mathlib.Core.Option.{Option, none, some}
 use mathlib.Core.List.{List, _++_}
 use Prim.Native.Nat.{ℕ}
 use lib.Dec.{leb}
-use lib.ListN.{length, take, drop}
+use lib.ListN.{length, drop}
 use Rattle.condition.specs.declared.Lent.{Lent}
 use Rattle.condition.specs.declared.ConditionAnswer.{ConditionAnswer}
 use Rattle.condition.specs.declared.ConditionAnswer.the-variants as condition
 use Rattle.condition.specs.declared.ValueAnswer.{ValueAnswer}
 use Rattle.condition.specs.declared.ValueAnswer.the-variants as value
-use Rattle.condition.specs.declared.ActionAnswer.{ActionAnswer}
 use Rattle.condition.specs.declared.ActionAnswer.the-variants as action
 use Rattle.condition.specs.declared.Performed.{Performed}
-use Rattle.condition.specs.Tree.{Variable, Condition, Value, Assignment, conditionNames, valueNames, actionNames}
+use Rattle.condition.specs.Tree.{Condition, Assignment}
 use Rattle.condition.specs.Parse.{parseCondition, parseValue, parseAction}
-use Rattle.condition.specs.Meaning.{Environment, environment, lent, holds, word, performed}
+use Rattle.condition.specs.Meaning.{Environment, lent, holds, word, performed}
 
 -- What the paper answers: the number of a refusal, or what is given.
 pub data Outcome (A : Type 0) : Type 0 where

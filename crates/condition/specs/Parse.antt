@@ -1,5 +1,5 @@
 -- Parsing operator-first bytes (document 01, "Conditions and values"), for given numbers of lent values.
-use mathlib.Core.Bool.{Bool, true, false, cond}
+use mathlib.Core.Bool.{Bool, cond}
 use mathlib.Core.Option.{Option, none, some}
 use mathlib.Core.List.{List, [], _∷_}
 use Prim.Native.Nat.{ℕ, zero, suc}

@@ -1,13 +1,13 @@
 -- What the private functions that walk over the bytes promise. Places in the bytes stand for what is left of them.
 use mathlib.Core.Path.{_≡_}
-use mathlib.Core.Bool.{Bool, true, false, cond, _&&_}
+use mathlib.Core.Bool.{Bool, true, false, cond}
 use mathlib.Core.List.{List}
 use Prim.Native.Nat.{ℕ, _+_, _-_, _/_, _%_, _^_, _≤_, _<_}
 use lib.Dec.{leb, ltb, eqb}
 use lib.ListN.{length, getD, set, drop}
 use Rattle.condition.specs.declared.Lent.{Lent}
 use Rattle.condition.specs.Word.{bigEndian}
-use Rattle.condition.specs.Tree.{Condition, Value, Assignment}
+use Rattle.condition.specs.Tree.{Condition, Value}
 use Rattle.condition.specs.Parse.{Parsed, malformed, parsed, Reader, conditionFrom, valueFrom, assignmentFrom}
 use Rattle.condition.specs.Meaning.{Environment, lent, holds, word}
 

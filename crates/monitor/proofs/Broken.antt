@@ -22,8 +22,9 @@ use Rattle.step.specs.Calls.{isEntry}
 use Rattle.step.proofs.Lists.{none-some, Among, kept-passes, passes-kept, number-passes, passes-number, least-none, least-some}
 use Rattle.monitor.specs.Monitor.{Armed, State, initial, tripleIn, arms, armedBy, fails, failing, ofNumber, refusal}
 use Rattle.monitor.specs.Published.{reached, Breaks}
+use Rattle.monitor.specs.Demand.{Taken, Lowest}
 use Rattle.monitor.proofs.Traces.{opening, Opened, snoc-same}
-use Rattle.monitor.proofs.Calls.{Taken, held-opened, opened-held, unit-held, free}
+use Rattle.monitor.proofs.Calls.{held-opened, opened-held, unit-held, free}
 
 -- What is needed of a sheet: it does not start in a bad state; a precondition sees the event's values only, a postcondition these and the kept ones.
 pub record Plain (S : Sheet) : Type 0 where
@@ -47,11 +48,6 @@ Closes S σ e i = (e .kind ≡ 1) × ((a : Armed) × (first (ofNumber (e .number
 -- the triple that the monitor finds broken at an event
 abbrev pub brokenAt : Sheet → State → Event → Option ℕ
 brokenAt S σ e = cond (isEntry e) none (failing S (σ .configuration) e (first (ofNumber (e .number)) (σ .calls)))
-
--- The lowest triple that a trace breaks, if it breaks one.
-pub record Lowest (S : Sheet) (w : List Event) (t : Option ℕ) : Type 0 where
-  pub unbroken : t ≡ none → (i : ℕ) → Breaks S w i → ⊥
-  pub broken : (i : ℕ) → t ≡ some i → Breaks S w i × ((j : ℕ) → Breaks S w j → i ≤ j)
 
 one : (n : ℕ) → n ≤ 1 → (n ≡ 0 → ⊥) → n ≡ 1
 one zero h k = absurd (k refl)

@@ -21,12 +21,8 @@ use Rattle.step.specs.Calls.{isEntry, isExit, mostCalls, lastPosition, openNumb
 use Rattle.step.proofs.Lists.{none-some, headOf, first-keep, keep-append, keep-none, keep-again, keep-without, any-keep, any-map}
 use Rattle.monitor.specs.Monitor.{Armed, State, initial, fresh, ofNumber, entered, exited, isJudged, refusal, offer}
 use Rattle.monitor.specs.Published.{shift, reached}
+use Rattle.monitor.specs.Demand.{Taken, begun, more}
 use Rattle.monitor.proofs.Traces.{opening, next, callOf, another, Opened, shift-snoc, call-snoc, opened-call, call-opened}
-
--- The state is reached from the fresh one by offering the events of the trace in order, each of them taken. (None had a verdict before an offer: `unjudged`.)
-pub data Taken (S : Sheet) : List Event → State → Type 0 where
-  begun : Taken S [] (fresh S)
-  more : {w : List Event} {σ : State} → Taken S w σ → (e : Event) → refusal S σ e ≡ 0 → Taken S (w ++ e ∷ []) (offer S σ e .state)
 
 -- An event that is refused for no reason.
 pub record Free (S : Sheet) (σ : State) (e : Event) : Type 0 where

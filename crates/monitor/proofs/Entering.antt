@@ -1,13 +1,13 @@
 -- An entry that is taken: what its parts answer is the padded form of the definition's state. Assumes nothing.
-use mathlib.Core.Path.{_≡_, refl, sym, ap, subst, _∙_}
-use mathlib.Core.Bool.{Bool, true, false, _&&_}
+use mathlib.Core.Path.{_≡_, refl, sym, ap, _∙_}
+use mathlib.Core.Bool.{Bool}
 use mathlib.Core.Option.{none}
 use mathlib.Core.List.{List, [], _∷_, _++_, map, map-append}
-use Prim.Native.Nat.{ℕ, zero, suc, _+_, _≤_, _<_}
+use Prim.Native.Nat.{ℕ, zero, suc, _+_, _<_}
 use native.Mathlib.Omega.{arith}
 use borrow.Author.Tests.{leb-false, eq-eqb}
 use lib.Dec.{eqb}
-use lib.ListN.{length, getD, set, take, drop, length-append, length-map}
+use lib.ListN.{length, getD, set, take, length-append, length-map}
 use Rattle.condition.specs.Meaning.{environment}
 use Rattle.sheet.specs.declared.Triple.{Triple}
 use Rattle.sheet.specs.declared.Record.{Record}
@@ -16,7 +16,7 @@ use Rattle.sheet.specs.Table.{table, fit}
 use Rattle.sheet.specs.Decode.{transitionForm, tripleForm, lastIn, lastAt, commonOf, sheetOf}
 use Rattle.sheet.specs.Reading.{lastOf, sheetLayout}
 use Rattle.sheet.specs.Log.{Event}
-use Rattle.sheet.proofs.Accepted.{Accepted, GoodTriple, accepted, bounds, sheet-triple}
+use Rattle.sheet.proofs.Accepted.{Accepted, GoodTriple, accepted, sheet-triple}
 use Rattle.sheet.proofs.Tables.{and-assoc}
 use Rattle.sheet.proofs.Tests.{and-iff, eqb-iff}
 use Rattle.step.specs.declared.Call.{Call}
@@ -24,7 +24,6 @@ use Rattle.step.specs.declared.Moved.{Moved}
 use Rattle.step.specs.declared.Outcome.{Outcome}
 use Rattle.step.specs.Lists.{numbers}
 use Rattle.step.specs.Moves.{Configuration}
-use Rattle.step.specs.Calls.{isEntry}
 use Rattle.step.specs.Verdicts.{verdict, verdictFor, outcomeOf}
 use Rattle.step.specs.Padding.{zeroCall, padCall}
 use Rattle.step.specs.Walk.{eventOf, numberIn}

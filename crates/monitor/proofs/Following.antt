@@ -1,9 +1,9 @@
 -- Running a log: what is left of it, and what it comes to. Assumes nothing.
 use mathlib.Core.Path.{_≡_, refl, sym, ap, subst, _∙_}
-use mathlib.Core.Bool.{Bool, true, false, cond}
-use mathlib.Core.Option.{Option, none, some}
-use mathlib.Core.List.{List, [], _∷_}
-use Prim.Native.Nat.{ℕ, zero, suc, _+_, _-_, _*_, _/_, _%_, _≤_, _<_}
+use mathlib.Core.Bool.{true}
+use mathlib.Core.Option.{none, some}
+use mathlib.Core.List.{List}
+use Prim.Native.Nat.{ℕ, zero, suc, _+_, _-_, _*_, _/_, _≤_, _<_}
 use native.Mathlib.Nat.{mul-suc, div-add-mod}
 use native.Mathlib.Numerals.{add-one}
 use native.Mathlib.Omega.{arith}
@@ -20,13 +20,12 @@ use Rattle.sheet.proofs.Accepted.{Accepted, unless-iff}
 use Rattle.sheet.proofs.Tables.{length-records}
 use Rattle.sheet.proofs.Tests.{and-iff, leb-iff, eqb-iff}
 use Rattle.step.specs.declared.Verdict.{Verdict}
-use Rattle.step.specs.declared.Outcome.{Outcome}
 use Rattle.step.specs.declared.Outcome.the-variants.{Open, Judged}
 use Rattle.step.specs.declared.RunAnswer.the-variants.{Violated, Clean, RefusedAt}
 use Rattle.step.specs.Verdicts.{outcomeOf, verdictIn}
 use Rattle.step.specs.Walk.{eventOf}
 use Rattle.monitor.specs.declared.WatchState.{WatchState}
-use Rattle.monitor.specs.Monitor.{State, Offered, Ran, fresh, refusal, offered, offer, unlessJudged, unlessRefused, runFrom, run}
+use Rattle.monitor.specs.Monitor.{State, Offered, Ran, fresh, refusal, offer, unlessJudged, unlessRefused, runFrom, run}
 use Rattle.monitor.specs.Sound.{sound}
 use Rattle.monitor.specs.Padded.{pad, view}
 use Rattle.monitor.specs.Answers.{ranAnswer}

@@ -12,26 +12,15 @@ use Rattle.sheet.specs.Log.{Event}
 use Rattle.step.specs.declared.Verdict.{Verdict}
 use Rattle.step.specs.Lists.{first}
 use Rattle.step.specs.Calls.{isEntry}
-use Rattle.step.specs.Verdicts.{badState, verdict, stateIn, tripleIn}
+use Rattle.step.specs.Verdicts.{verdict}
 use Rattle.step.proofs.Lists.{none-some}
 use Rattle.step.proofs.Causes.{verdict-none, verdict-some}
 use Rattle.monitor.specs.Monitor.{State, initial, fresh, failing, ofNumber, entered, exited, refusal, offer}
 use Rattle.monitor.specs.Published.{shift, reached, ReachesBad, Counterexample}
+use Rattle.monitor.specs.Demand.{Taken, begun, more, Lowest, Clear, Finds}
 use Rattle.monitor.proofs.Traces.{stepped, shift-snoc, not-snoc, empty-prefix, prefix-snoc}
-use Rattle.monitor.proofs.Calls.{Taken, begun, more, offer-taken, holds, unjudged}
-use Rattle.monitor.proofs.Broken.{Plain, brokenAt, Lowest, lowest-broken}
-
--- No prefix of the trace is a counterexample.
-abbrev pub Clear : Sheet → List Event → Type 0
-Clear S w = (u v : List Event) → w ≡ u ++ v → Counterexample S u → ⊥
-
--- The verdict that belongs to a counterexample: the position of its last event, the bad state that it reaches, if it reaches one, and the lowest triple that
--- it breaks, if it breaks one.
-pub record Finds (S : Sheet) (w : List Event) (v : Verdict) : Type 0 where
-  pub counterexample : Counterexample S w
-  pub position : v .position ≡ length w
-  pub state : stateIn (v .cause) ≡ badState (S .common .bad) (reached S w .main)
-  pub triple : Lowest S w (tripleIn (v .cause))
+use Rattle.monitor.proofs.Calls.{offer-taken, holds, unjudged}
+use Rattle.monitor.proofs.Broken.{Plain, brokenAt, lowest-broken}
 
 module _ (S : Sheet) where
   verdict-step : (σ : State) (e : Event) (b : Bool)

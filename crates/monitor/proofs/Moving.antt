@@ -35,7 +35,7 @@ use Rattle.monitor.specs.declared.event.Tables.{Tables}
 use Rattle.monitor.specs.declared.WatchState.{WatchState}
 use Rattle.monitor.specs.Monitor.{refusal}
 use Rattle.monitor.specs.Padded.{view}
-use Rattle.monitor.specs.Walk.{tablesOf, Prepared, actionsOf, movedTo}
+use Rattle.monitor.specs.Walk.{Prepared, actionsOf, movedTo}
 use Rattle.monitor.proofs.Calls.{free}
 use Rattle.monitor.proofs.Soundness.{among-at, moved-variables}
 use Rattle.monitor.proofs.Views.{take-fitted, behind-fit}

@@ -1,6 +1,5 @@
 -- A run's verdict is the published one: definitions 3 and 5 of source document 003, on the trace of the events that are taken. Assumes nothing.
 use mathlib.Core.Path.{_≡_, refl, sym, _∙_, ap, subst}
-use mathlib.Core.Logic.{_↔_}
 use mathlib.Core.Option.{Option, none, some}
 use mathlib.Core.List.{List, [], _∷_, _++_, append-nil, append-assoc}
 use Prim.Native.Nat.{ℕ, zero, suc, _+_}
@@ -13,43 +12,10 @@ use Rattle.step.specs.Verdicts.{tripleIn}
 use Rattle.step.proofs.Causes.{verdict-same}
 use Rattle.monitor.specs.Monitor.{State, fresh, refusal, offer, Ran, violated, clean, refusedAt, runFrom, run}
 use Rattle.monitor.specs.Published.{reached, Counterexample}
-use Rattle.monitor.proofs.Calls.{Taken, begun, more, holds, unjudged}
-use Rattle.monitor.proofs.Broken.{Plain, Lowest}
-use Rattle.monitor.proofs.Found.{Clear, Finds, judged-finds, unjudged-none, taken-clear, clear-unjudged}
-
--- The events before the last of some prefix are taken, with no counterexample among their prefixes; the next one is taken too and makes a counterexample; and
--- the verdict is that counterexample's.
-pub record Violated (S : Sheet) (es : List Event) (v : Verdict) : Type 0 where
-  pub w : List Event
-  pub e : Event
-  pub rest : List Event
-  pub parts : es ≡ w ++ e ∷ rest
-  pub state : State
-  pub taken : Taken S w state
-  pub taking : refusal S state e ≡ 0
-  pub before : Clear S w
-  pub finds : Finds S (w ++ e ∷ []) v
-
--- All events are taken, and no prefix of them is a counterexample.
-pub record Clean (S : Sheet) (es : List Event) (σ : State) : Type 0 where
-  pub taken : Taken S es σ
-  pub clear : Clear S es
-  pub position : σ .position ≡ length es
-  pub configuration : σ .configuration ≡ reached S es
-  pub unjudged : σ .verdict ≡ none
-
--- The events before this one are taken, with no counterexample among their prefixes, and this one is refused.
-pub record Refused (S : Sheet) (es : List Event) (n i : ℕ) : Type 0 where
-  pub w : List Event
-  pub e : Event
-  pub rest : List Event
-  pub parts : es ≡ w ++ e ∷ rest
-  pub state : State
-  pub taken : Taken S w state
-  pub before : Clear S w
-  pub refused : refusal S state e ≡ n
-  pub some : n ≡ 0 → ⊥
-  pub place : i ≡ length w + 1
+use Rattle.monitor.specs.Demand.{Taken, begun, more, Lowest, Finds, Violated, Clean, Refused, Published}
+use Rattle.monitor.proofs.Calls.{holds, unjudged}
+use Rattle.monitor.proofs.Broken.{Plain}
+use Rattle.monitor.proofs.Found.{judged-finds, unjudged-none, taken-clear, clear-unjudged}
 
 -- One turn of a run.
 module _ (S : Sheet) (i : ℕ) (σ : State) (e : Event) (es : List Event) where
@@ -164,14 +130,6 @@ module _ (S : Sheet) (plain : Plain S) where
         stopped : (m : ℕ) → refusal S (h .state) (h .e) ≡ m → (m ≡ 0 → ⊥) → runFrom S (suc (length (h .w))) (h .state) (h .e ∷ h .rest) ≡ refusedAt m i
         stopped zero q z = absurd (z refl)
         stopped (suc m) q z = run-refused S (suc (length (h .w))) (h .state) (h .e) (h .rest) m q ∙ ap (λ j. refusedAt (suc m) j) (omega (arith, h .place))
-
--- What a run comes to, for any events: it ends in a verdict just where the events up to one of them are taken and are the first counterexample, with that
--- counterexample's position, bad state and lowest triple; it ends in a refusal just where an event is refused after events that hold no counterexample; and it is
--- clean just where all events are taken and hold none.
-pub record Published (S : Sheet) (es : List Event) : Type 0 where
-  pub whenViolated : (v : Verdict) → run S es ≡ violated v ↔ Violated S es v
-  pub whenRefused : (n i : ℕ) → run S es ≡ refusedAt n i ↔ Refused S es n i
-  pub whenClean : (σ : State) → run S es ≡ clean σ ↔ Clean S es σ
 
 module _ (S : Sheet) (plain : Plain S) where
   pub published : (es : List Event) → Published S es

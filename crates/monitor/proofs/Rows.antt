@@ -1,8 +1,7 @@
 -- The starred rows of document 01 on sheet A's logs, as rows under one claim about the definitions. Assumes nothing.
 use mathlib.Core.Path.{_≡_, refl}
-use mathlib.Core.Option.{Option, none, some}
 use mathlib.Core.List.{List, [], _∷_, _++_, map}
-use Prim.Native.Nat.{ℕ, _+_, _*_, _/_, _%_}
+use Prim.Native.Nat.{ℕ, _+_}
 use lib.ListN.{length}
 use Rattle.condition.specs.Word.{bigEndian, equalWord}
 use Rattle.condition.specs.Parse.{isLent, literal, numbered, conditionOperator, valueOperator, conditionFrom, valueFrom, parseCondition, parseAction}
@@ -17,7 +16,7 @@ use Rattle.step.specs.Calls.{refusals, lowest}
 use Rattle.step.specs.Verdicts.{verdict}
 use Rattle.step.specs.declared.Cause.the-variants as cause
 use Rattle.step.specs.declared.Verdict.{Verdict}
-use Rattle.monitor.specs.Monitor.{fresh, offer, refusal, entered, exited, arms, armedBy, fails, runFrom, State, Ran, violated, clean, refusedAt, run}
+use Rattle.monitor.specs.Monitor.{fresh, offer, refusal, entered, exited, arms, armedBy, fails, runFrom, Ran, violated, clean, refusedAt, run}
 use Rattle.sheet.proofs.Rows.{sheetA}
 
 -- What the program prints of a run: a verdict; how many events, which main state and how many open calls; a refusal and its record.

@@ -29,7 +29,8 @@ use Rattle.step.specs.Verdicts.{causeOf, placed, verdict, ifThere}
 use Rattle.step.proofs.Lists.{Among, any-map, first-passes, kept-passes, least-some}
 use Rattle.monitor.specs.Monitor.{Armed, State, fresh, tripleIn, fails, failing, ofNumber, armedBy, entered, exited, refusal, offered, offer}
 use Rattle.monitor.specs.Sound.{callSound, verdictSound, sound}
-use Rattle.monitor.proofs.Calls.{Taken, begun, more, free}
+use Rattle.monitor.specs.Demand.{Taken, begun, more}
+use Rattle.monitor.proofs.Calls.{free}
 use Rattle.monitor.proofs.Arming.{among-every, armed-of, armed-rising, armed-one-state, armed-few}
 
 -- "A fresh state is defined for every accepted sheet": it is sound

@@ -1,13 +1,13 @@
 -- The triples of an accepted sheet by their numbers. Assumes nothing.
-use mathlib.Core.Path.{_≡_, refl, sym, ap, _∙_}
+use mathlib.Core.Path.{_≡_, refl, ap, _∙_}
 use mathlib.Core.Bool.{Bool, true, false}
-use mathlib.Core.List.{List, []}
-use Prim.Native.Nat.{ℕ, _+_, _*_, _≤_, _<_}
+use mathlib.Core.List.{List}
+use Prim.Native.Nat.{ℕ, _+_, _*_, _≤_}
 use native.Mathlib.Omega.{arith}
 use borrow.Author.Tests.{ltb-true, ltb-false}
 use lib.Dec.{ltb}
 use lib.ListN.{length, getD, drop, drop-of-length-le, List·getD-eq-default}
-use Rattle.sheet.specs.Decode.{transitionForm, tripleForm, lastIn, lastAt, transitionsAt, sheetOf}
+use Rattle.sheet.specs.Decode.{transitionForm, tripleForm, lastIn, lastAt, sheetOf}
 use Rattle.sheet.specs.Table.{table, starts}
 use Rattle.sheet.specs.Reading.{sheetLayout}
 use Rattle.sheet.proofs.Tables.{length-records, table-at, fixed-start, fixed-extent}

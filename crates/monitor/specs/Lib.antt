@@ -4,4 +4,5 @@ pub mod Published
 pub mod Sound
 pub mod Padded
 pub mod Answers
+pub mod Demand
 pub mod Walk

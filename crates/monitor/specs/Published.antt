@@ -1,7 +1,7 @@
 -- The published definition of counterexamples (source document 003, definitions 1 to 5), on traces. Transitions go by sheet order, as document 01 fixes it.
 use mathlib.Core.Path.{_≡_}
 use mathlib.Core.Logic.{_⊎_}
-use mathlib.Core.Bool.{Bool, true, false, not}
+use mathlib.Core.Bool.{true, false, not}
 use mathlib.Core.List.{List, [], _∷_, _++_}
 use Prim.Native.Nat.{ℕ, _<_}
 use lib.Dec.{eqb}

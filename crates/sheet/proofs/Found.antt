@@ -2,7 +2,7 @@
 use mathlib.Core.Path.{_≡_, refl, sym, ap, ap₂, _∙_}
 use mathlib.Core.Bool.{Bool, true, false, _&&_}
 use mathlib.Core.List.{List}
-use Prim.Native.Nat.{ℕ, zero, suc, _+_, _*_, _≤_, _<_}
+use Prim.Native.Nat.{ℕ, zero, suc, _+_, _*_, _<_}
 use native.Mathlib.Omega.{arith}
 use borrow.Author.Tests.{ltb-true}
 use lib.Dec.{ltb, eqb}
@@ -11,7 +11,6 @@ use lib.Seq.{drop-drop}
 use Rattle.condition.specs.Answer.{longest}
 use Rattle.sheet.specs.declared.walk.Walk.{Walk}
 use Rattle.sheet.specs.declared.walk.Texts.{Texts}
-use Rattle.sheet.specs.declared.walk.Tables.{Tables}
 use Rattle.sheet.specs.declared.Counts.{Counts}
 use Rattle.sheet.specs.declared.Transition.{Transition}
 use Rattle.sheet.specs.declared.Pair.{Pair}

@@ -1,6 +1,6 @@
 -- Reading a log and its records, and what the crate's readers answer. Assumes nothing.
-use mathlib.Core.Path.{_≡_, refl, sym, ap, subst, _∙_}
-use mathlib.Core.Bool.{Bool, true, false, _&&_}
+use mathlib.Core.Path.{_≡_, refl, subst, _∙_}
+use mathlib.Core.Bool.{true, false, _&&_}
 use mathlib.Core.List.{List}
 use Prim.Native.Nat.{ℕ, zero, suc, _+_, _-_, _*_, _/_, _%_, _≤_, _<_}
 use native.Mathlib.Nat.{sub-zero}
@@ -10,11 +10,9 @@ use borrow.Author.Tests.{leb-true, eq-eqb, ne-eqb}
 use lib.Dec.{leb, eqb}
 use lib.ListN.{length, set, drop, replicate, length-set}
 use lib.Seq.{sets, set-out}
-use Rattle.condition.specs.Word.{bigEndian}
 use Rattle.sheet.specs.declared.Reading.the-variants as sheet
 use Rattle.sheet.specs.declared.LogReading.the-variants as log
 use Rattle.sheet.specs.declared.walk.Tables.{Tables}
-use Rattle.sheet.specs.declared.Places.{Places}
 use Rattle.sheet.specs.Bytes.{byte, half, word}
 use Rattle.sheet.specs.Table.{records, table, starts, fit}
 use Rattle.sheet.specs.Decode.{wordForm, textForm, conditionsIn, actionsIn}

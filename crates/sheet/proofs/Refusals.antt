@@ -1,8 +1,8 @@
 -- From the tests on the bytes to the refusal's number. Assumes nothing.
 use mathlib.Core.Path.{_≡_, refl, sym, ap, ap₂, _∙_}
 use mathlib.Core.Bool.{Bool, true, false, not, _&&_}
-use mathlib.Core.List.{List, [], _∷_, map}
-use Prim.Native.Nat.{ℕ, zero, suc, _≤_, _<_}
+use mathlib.Core.List.{List, [], _∷_}
+use Prim.Native.Nat.{ℕ, _≤_}
 use native.Mathlib.Omega.{arith}
 use borrow.Author.Tests.{eq-eqb, ne-eqb, ltb-true, ltb-false}
 use lib.Dec.{eqb, ltb, leb}
@@ -19,10 +19,10 @@ use Rattle.sheet.specs.declared.Template.{Template}
 use Rattle.sheet.specs.declared.walk.Tables.{Tables}
 use Rattle.sheet.specs.Bytes.{byte}
 use Rattle.sheet.specs.Table.{table, starts, fit, every}
-use Rattle.sheet.specs.Parts.{Common, Paired}
+use Rattle.sheet.specs.Parts.{Paired}
 use Rattle.sheet.specs.Decode.{textForm, transitionForm, tripleForm, pairedForm, templateForm, conditionsIn, actionsIn, transitionsIn, lastIn, lastAt, conditionsAt, actionsAt, transitionsAt, commonOf}
-use Rattle.sheet.specs.Reading.{together, transitionRanged, tripleRanged, templateRanged, countsOf, countsHold, Layout, Use, guard, precondition, postcondition, between, lentIn, conditionIn, usedWell, whole, counted, tabled, formed, ranged, roled, transitionsOf, lastOf, reading, unless, sheetLayout, networkLayout}
-use Rattle.sheet.specs.Walk.{pairedRanged, Finds, conditionLengths, actionLengths, tablesOf, namesAt, guardSuits, preconditionSuits, tripleSuits, pairSuits, pairedSuits, templateSuits}
+use Rattle.sheet.specs.Reading.{together, transitionRanged, tripleRanged, templateRanged, countsOf, countsHold, Layout, Use, guard, precondition, postcondition, between, lentIn, conditionIn, usedWell, whole, counted, tabled, formed, ranged, roled, transitionsOf, lastOf, reading, sheetLayout, networkLayout}
+use Rattle.sheet.specs.Walk.{pairedRanged, Finds, conditionLengths, actionLengths, tablesOf, namesAt, guardSuits, preconditionSuits, tripleSuits, pairedSuits, templateSuits}
 use Rattle.sheet.proofs.Tests.{and-iff, leb-iff}
 use Rattle.sheet.proofs.Tables.{and-assoc, and-true, length-records, indexed, every-same, every-map}
 

@@ -1,16 +1,13 @@
 -- Conditions in their roles, by their number. Assumes nothing.
-use mathlib.Core.Path.{_≡_, refl, sym, ap, _∙_}
-use mathlib.Core.Bool.{Bool, true, false, not, _&&_}
-use mathlib.Core.List.{List, [], _∷_}
+use mathlib.Core.Path.{_≡_}
+use mathlib.Core.Bool.{Bool, false}
+use mathlib.Core.List.{List}
 use Prim.Native.Nat.{ℕ, _≤_, _<_}
-use native.Mathlib.Omega.{arith}
 use borrow.Author.Tests.{lt-ltb, le-ltb}
-use lib.Dec.{ltb}
-use lib.ListN.{length, getD, drop}
+use lib.ListN.{getD, drop}
 use Rattle.condition.specs.declared.Lent.{Lent}
 use Rattle.condition.specs.Tree.{Variable, conditionNames}
 use Rattle.condition.specs.Answer.{conditionWhich}
-use Rattle.sheet.specs.Table.{table, starts, fit}
 use Rattle.sheet.specs.Decode.{textForm}
 use Rattle.sheet.specs.Walk.{namesAt}
 

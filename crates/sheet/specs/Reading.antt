@@ -2,7 +2,7 @@
 -- input, or 0. One definition over a description of the layout.
 use mathlib.Core.Bool.{Bool, true, false, not, cond, _&&_}
 use mathlib.Core.List.{List, [], _∷_, map}
-use Prim.Native.Nat.{ℕ, zero, suc, _+_, _*_, _/_, _%_, _^_}
+use Prim.Native.Nat.{ℕ, suc, _/_, _%_, _^_}
 use lib.Dec.{leb, ltb, eqb}
 use lib.ListN.{length, getD}
 use Rattle.condition.specs.declared.Lent.{Lent}
@@ -16,7 +16,7 @@ use Rattle.sheet.specs.declared.Template.{Template}
 use Rattle.sheet.specs.Bytes.{byte, half}
 use Rattle.sheet.specs.Table.{Form, table, after, every}
 use Rattle.sheet.specs.Parts.{Common, Paired}
-use Rattle.sheet.specs.Decode.{wordForm, textForm, lengthForm, transitionForm, tripleForm, pairedForm, pairCountForm, templateForm, conditionsIn, actionsIn, transitionsIn, lastIn, conditionsAt, actionsAt, transitionsAt, lastAt, commonOf}
+use Rattle.sheet.specs.Decode.{lengthForm, transitionForm, tripleForm, pairedForm, pairCountForm, templateForm, conditionsIn, actionsIn, transitionsIn, lastIn, conditionsAt, actionsAt, transitionsAt, lastAt, commonOf}
 
 -- The parts in which a condition is used.
 pub data Role : Type 0 where

@@ -1,8 +1,8 @@
 -- The refusals of an event, from the places of its call. Assumes nothing.
-use mathlib.Core.Path.{_≡_, refl, sym, ap, ap₂, _∙_}
+use mathlib.Core.Path.{_≡_, refl, sym, ap, _∙_}
 use mathlib.Core.Bool.{Bool, true, false, not, cond, _&&_}
-use mathlib.Core.List.{List, [], _∷_, map}
-use Prim.Native.Nat.{ℕ, min, _≤_, _<_}
+use mathlib.Core.List.{List, map}
+use Prim.Native.Nat.{ℕ, min}
 use native.Mathlib.Omega.{arith}
 use borrow.Author.Tests.{lt-ltb, le-ltb, ltb-true, ltb-false, le-leb, lt-leb, leb-true, leb-false}
 use lib.Dec.{leb, ltb, eqb}
@@ -10,7 +10,7 @@ use lib.ListN.{length, take, length-take, length-map}
 use Rattle.sheet.specs.declared.Record.{Record}
 use Rattle.step.specs.declared.Call.{Call}
 use Rattle.step.specs.Lists.{any}
-use Rattle.step.specs.Calls.{lastPosition, refusalsFor, lowest, openNumber, openFor}
+use Rattle.step.specs.Calls.{lastPosition, refusalsFor, lowest, openNumber}
 use Rattle.step.specs.Walk.{placeOf, unpad, eventOf}
 use Rattle.step.proofs.Lists.{any-map}
 use Rattle.step.proofs.Searching.{any-place}

@@ -1,5 +1,5 @@
 -- What the operations on the bytes answer, for all bytes and all indexes. On accepted ones they are the definitions of Meets and Moves.
-use mathlib.Core.Bool.{Bool, true, false, cond, _&&_}
+use mathlib.Core.Bool.{Bool, false, cond, _&&_}
 use mathlib.Core.Option.{Option, none, some}
 use mathlib.Core.List.{List, [], _∷_}
 use Prim.Native.Nat.{ℕ, zero, suc, _+_, _*_}

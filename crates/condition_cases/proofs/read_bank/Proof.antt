@@ -1,6 +1,5 @@
 -- `read_bank` is safe and ends: the count is a byte, so that the words have room and the places stay small. Assumes nothing.
 use borrow.Author.Needs.{needs}
-use native.Mathlib.Omega.{arith}
 use Prim.Native.Nat.{_-_, _≤_}
 use Rattle.condition_cases.proofs.read_bank.Statement.{statement}
 use Rattle.condition_cases.proofs.read_bank.Tie as tie

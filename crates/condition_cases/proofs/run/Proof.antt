@@ -1,6 +1,6 @@
 -- `run` is safe and ends: each frame ends behind where it begins. Assumes nothing.
 use borrow.Author.Needs.{needs}
-use Prim.Native.Nat.{ℕ, _-_}
+use Prim.Native.Nat.{_-_}
 use lib.ListN.{length}
 use Rattle.condition_cases.proofs.run.Statement.{statement}
 use Rattle.condition_cases.proofs.run.Tie as tie

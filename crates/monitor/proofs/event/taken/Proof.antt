@@ -3,7 +3,6 @@ use Rattle.sheet.specs.Decode.{sheetOf}
 use Rattle.monitor.specs.Padded.{view}
 use Rattle.monitor.proofs.Entering.{values-all}
 use Rattle.monitor.proofs.Answering.{kind-exit, taken-entry, taken-exit}
-use borrow.Author.Needs.{needs}
 use Rattle.monitor.proofs.event.taken.Statement.{statement}
 use Rattle.monitor.proofs.event.taken.Tie as tie
 

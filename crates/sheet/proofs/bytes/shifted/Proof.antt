@@ -3,7 +3,7 @@ use mathlib.Core.Path.{sym}
 use borrow.Author.Needs.{needs}
 use native.Mathlib.Nat.{div-eq-of-lt, lt-of-lt-of-le}
 use native.Mathlib.Omega.{arith}
-use Prim.Native.Nat.{_≤_, _<_, _^_}
+use Prim.Native.Nat.{_<_, _^_}
 use lib.Pow.{pow-mono}
 use Rattle.sheet.proofs.bytes.shifted.Statement.{statement}
 use Rattle.sheet.proofs.bytes.shifted.Tie as tie

@@ -3,7 +3,6 @@ use mathlib.Core.Logic.{⊎-elim}
 use mathlib.Core.Path.{_∙_}
 use borrow.Author.Needs.{needs}
 use Prim.Native.Nat.{_-_}
-use native.Mathlib.Omega.{arith}
 use Rattle.sheet.proofs.Loops.{byte-here}
 use Rattle.sheet.proofs.Indexing.{Indexed, indexed-start, indexed-next, indexed-past, indexed-end}
 use Rattle.sheet.proofs.index.index.Statement.{statement}

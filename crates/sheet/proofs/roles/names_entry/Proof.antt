@@ -1,5 +1,4 @@
 -- `roles::names_entry` meets its contract. Assumes nothing.
-use mathlib.Core.Path.{sym, ap, _∙_}
 use borrow.Author.Needs.{needs}
 use Rattle.condition.specs.Tree.{isAtEntry}
 use Rattle.sheet.proofs.Suits.{names-there, names-past}

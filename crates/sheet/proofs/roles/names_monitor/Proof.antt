@@ -1,5 +1,4 @@
 -- `roles::names_monitor` meets its contract. Assumes nothing.
-use mathlib.Core.Path.{sym, ap, _∙_}
 use borrow.Author.Needs.{needs}
 use Rattle.condition.specs.Tree.{isMonitor}
 use Rattle.sheet.proofs.Suits.{names-there, names-past}

@@ -1,6 +1,5 @@
 -- `spread::together` meets its contract. Assumes nothing.
 use borrow.Author.Needs.{needs}
-use native.Mathlib.Omega.{arith}
 use Rattle.sheet.proofs.Crowd.{Counting, counting-start, counting-next, counting-end}
 use Rattle.sheet.proofs.spread.together.Statement.{statement}
 use Rattle.sheet.proofs.spread.together.Tie as tie

@@ -3,7 +3,6 @@ use mathlib.Core.Path.{refl, ap, ap₂, _∙_}
 use Prim.Native.Nat.{ℕ, _+_, _*_}
 use native.Mathlib.Omega.{arith}
 use borrow.Author.Needs.{needs}
-use Rattle.condition.specs.Answer.{longest}
 use Rattle.sheet.specs.Decode.{pairedForm, pairCountForm}
 use Rattle.sheet.specs.Reading.{between}
 use Rattle.sheet.proofs.Tables.{same-after}
