@@ -185,6 +185,7 @@ fn edge() -> SheetDraft {
 /// The base with calls 7 of unit 0 and 8 of unit 1 open. For the first triples 0 and 3 are armed,
 /// for the second triple 4. Saves the state.
 fn base_state(script: &mut Script) {
+    script.sort = Sort::Reached;
     script.sheet(&base().bytes());
     script.fresh("accepted x0=5 x1=-1");
     let first = "o=1 n0=7 k0.0=2 k0.1=1 a0=2 t0.1=3";
@@ -201,6 +202,7 @@ fn base_state(script: &mut Script) {
 
 /// The base with calls 100 to 115 open, of units 0 and 1 by turns. Saves the state.
 fn full_state(script: &mut Script) {
+    script.sort = Sort::Reached;
     script.sheet(&base().bytes());
     script.fresh("accepted x0=5 x1=-1");
     for number in 0..16u8 {
@@ -214,6 +216,7 @@ fn full_state(script: &mut Script) {
 }
 
 fn tiny_state(script: &mut Script) {
+    script.sort = Sort::Reached;
     script.sheet(&tiny().bytes());
     script.fresh("accepted");
     script.step(&entry(0, 7, &[]), "taken o=1 n0=7 p=1");
@@ -222,6 +225,7 @@ fn tiny_state(script: &mut Script) {
 
 /// Call 65535 of unit 15 open, with triples 0 to 3.
 fn edge_state(script: &mut Script) {
+    script.sort = Sort::Reached;
     script.sheet(&edge().bytes());
     script.fresh("accepted m=15 x0=-2147483648 x1=-1 x3=2147483647");
     let state = "m=15 x0=-2147483648 x1=-1 x3=2147483647 o=1 n0=65535 u0=15";
@@ -339,19 +343,15 @@ fn soundness(script: &mut Script) {
         exit,
         exit_answer: "taken",
     };
-    script.sort = Sort::Reached;
     base_state(script);
     let usual = events(entry(0, 9, &[1, 3]), "taken", exit(0, 7, &[2, 2]));
     clauses(script, BASE_CLAUSES, &usual);
-    script.sort = Sort::Reached;
     full_state(script);
     let usual = events(entry(0, 9, &[1, 3]), "refused 14", exit(0, 102, &[2, 2]));
     clauses(script, FULL_CLAUSES, &usual);
-    script.sort = Sort::Reached;
     tiny_state(script);
     let usual = events(entry(0, 9, &[]), "taken", exit(0, 7, &[]));
     clauses(script, TINY_CLAUSES, &usual);
-    script.sort = Sort::Reached;
     edge_state(script);
     let usual = events(entry(0, 9, &[0; 8]), "taken", exit(15, 65535, &[-1; 8]));
     clauses(script, EDGE_CLAUSES, &usual);
@@ -362,8 +362,8 @@ fn soundness(script: &mut Script) {
 const LAST: u32 = u32::MAX;
 
 fn positions(script: &mut Script) {
-    script.sort = Sort::Position;
     base_state(script);
+    script.sort = Sort::Position;
     let (opens, closes) = (entry(0, 9, &[1, 3]), exit(0, 7, &[2, 2]));
     for position in [0, 1, 0x7FFF_FFFF, 0x8000_0000, LAST - 2, LAST - 1, LAST] {
         let answer = if position == LAST {
@@ -376,40 +376,34 @@ fn positions(script: &mut Script) {
         script.offer(&opens, answer);
         script.offer(&closes, answer);
     }
-    // The last event that is taken, and what follows it.
+    last_position(script, &opens, &closes);
+}
+
+/// The last event that is taken, and what follows it.
+fn last_position(script: &mut Script, opens: &Record, closes: &Record) {
     let seven = "n0=7 k0.0=2 k0.1=1 a0=2 t0.1=3";
     let eight = "n1=8 u1=1 k1.0=3 k1.1=4 a1=1 t1.0=4";
     let nine = "n2=9 k2.0=1 k2.1=3 a2=4 t2.1=1 t2.2=3 t2.3=5";
-    let eight_left = "o=1 n0=8 u0=1 k0.0=3 k0.1=4 a0=1 t0.0=4";
-    let end = "p=4294967295 violated 4294967295";
-    for (last, line, after) in [
-        (
-            opens,
-            format!("x0=6 x1=-1 o=3 {seven} {eight} {nine} p=4294967295"),
-            12,
-        ),
-        (closes, format!("x0=6 x1=-1 {eight_left} p=4294967295"), 12),
-        (
-            exit(0, 7, &[2, 3]),
-            format!("m=1 x0=7 x1=-1 {eight_left} {end} state - triple 0"),
-            10,
-        ),
-        (
-            exit(1, 8, &[1, 3]),
-            format!("m=2 x0=6 x1=-1 o=1 {seven} {end} state 2 triple -"),
-            10,
-        ),
-        (
-            exit(1, 8, &[1, 2]),
-            format!("m=2 x0=6 x1=-1 o=1 {seven} {end} state 2 triple 4"),
-            10,
-        ),
-    ] {
+    let without_seven = "o=1 n0=8 u0=1 k0.0=3 k0.1=4 a0=1 t0.0=4 p=4294967295";
+    let all_three = format!("o=3 {seven} {eight} {nine} p=4294967295");
+    let without_eight = format!("o=1 {seven} p=4294967295");
+    let mut last = |event: &Record, state: &str, after: u8| {
         script.restore();
         script.set(&[(Field::Position, LAST - 1)]);
-        script.step(&last, &format!("taken {line}"));
-        script.offer(&entry(0, 10, &[1, 3]), &format!("refused {after} {line}"));
-        script.offer(&exit(1, 8, &[1, 3]), &format!("refused {after} {line}"));
+        script.step(event, &format!("taken {state}"));
+        let answer = format!("refused {after} {state}");
+        script.offer(&entry(0, 10, &[1, 3]), &answer);
+        script.offer(&exit(1, 8, &[1, 3]), &answer);
+    };
+    last(opens, &format!("x0=6 x1=-1 {all_three}"), 12);
+    last(closes, &format!("x0=6 x1=-1 {without_seven}"), 12);
+    let end = "violated 4294967295 state - triple 0";
+    let state = format!("m=1 x0=7 x1=-1 {without_seven} {end}");
+    last(&exit(0, 7, &[2, 3]), &state, 10);
+    for (value, triple) in [(3, "-"), (2, "4")] {
+        let end = format!("violated 4294967295 state 2 triple {triple}");
+        let state = format!("m=2 x0=6 x1=-1 {without_eight} {end}");
+        last(&exit(1, 8, &[1, value]), &state, 10);
     }
 }
 
@@ -423,8 +417,8 @@ fn leaving(number: u16) -> [i32; 2] {
 
 /// The calls one by one up to sixteen, then out of the middle, the front and the end.
 fn filling(script: &mut Script) {
-    script.sort = Sort::Filling;
     full_state(script);
+    script.sort = Sort::Filling;
     let values = [9, 7];
     for unit in [0, 1] {
         script.offer(&entry(unit, 99, &values), "refused 14");
@@ -461,88 +455,30 @@ fn filling(script: &mut Script) {
 
 // ---- Refusals 9 to 15 together ----------------------------------------------------------------
 
-/// What an event is to meet of refusals 13 to 15.
-struct Ask {
-    /// With sixteen calls open, not two.
-    full: bool,
-    numbers: &'static [u8],
-    kind: u8,
-    call: u16,
-    unit: u8,
+/// What an event meets of refusals 13 to 15, and the event.
+type Ask = (&'static [u8], Record);
+
+/// For the state with two calls.
+fn asks_of_two() -> Vec<Ask> {
+    vec![
+        (&[], entry(0, 9, &[2, 2])),
+        (&[], exit(0, 7, &[2, 2])),
+        (&[13], entry(1, 8, &[2, 2])),
+        (&[13], entry(0, 8, &[2, 2])),
+        (&[15], exit(0, 9, &[2, 2])),
+        (&[15], exit(1, 7, &[2, 2])),
+    ]
 }
 
-const ASKS: &[Ask] = &[
-    Ask {
-        full: false,
-        numbers: &[],
-        kind: 0,
-        call: 9,
-        unit: 0,
-    },
-    Ask {
-        full: false,
-        numbers: &[],
-        kind: 1,
-        call: 7,
-        unit: 0,
-    },
-    Ask {
-        full: false,
-        numbers: &[13],
-        kind: 0,
-        call: 8,
-        unit: 1,
-    },
-    Ask {
-        full: false,
-        numbers: &[13],
-        kind: 0,
-        call: 8,
-        unit: 0,
-    },
-    Ask {
-        full: false,
-        numbers: &[15],
-        kind: 1,
-        call: 9,
-        unit: 0,
-    },
-    Ask {
-        full: false,
-        numbers: &[15],
-        kind: 1,
-        call: 7,
-        unit: 1,
-    },
-    Ask {
-        full: true,
-        numbers: &[],
-        kind: 1,
-        call: 103,
-        unit: 1,
-    },
-    Ask {
-        full: true,
-        numbers: &[14],
-        kind: 0,
-        call: 9,
-        unit: 1,
-    },
-    Ask {
-        full: true,
-        numbers: &[13, 14],
-        kind: 0,
-        call: 115,
-        unit: 1,
-    },
-    Ask {
-        full: true,
-        numbers: &[15],
-        kind: 1,
-        call: 9,
-        unit: 1,
-    },
-];
+/// For the state with sixteen calls.
+fn asks_of_sixteen() -> Vec<Ask> {
+    vec![
+        (&[], exit(1, 103, &[2, 2])),
+        (&[14], entry(1, 9, &[2, 2])),
+        (&[13, 14], entry(1, 115, &[2, 2])),
+        (&[15], exit(1, 9, &[2, 2])),
+    ]
+}
 
 /// Ways to break soundness that leave the rest of a state as it is.
 const BREAKS: [Set; 5] = [
@@ -555,30 +491,34 @@ const BREAKS: [Set; 5] = [
 
 /// Every set of 9 to 12 with every set of 13 to 15: the lowest answers. What stands for 9 and 11
 /// goes round by `turn`.
-fn together(script: &mut Script, full: bool, turn: usize) {
+fn together(script: &mut Script, asks: &[Ask], turn: usize) {
     script.sort = Sort::Together;
-    for (place, ask) in ASKS.iter().filter(|ask| ask.full == full).enumerate() {
+    for (place, (numbers, event)) in asks.iter().enumerate() {
         for set in 0..16u8 {
-            let has = |number: u8| set & (1 << (number - 9)) != 0;
+            let met: Vec<u8> = (9..=12).filter(|n| set & (1 << (n - 9)) != 0).collect();
             let choice = turn + place + usize::from(set);
-            let position = if has(12) { LAST } else { 77 };
-            script.restore();
-            script.set(&[(Field::Position, position)]);
-            if has(9) {
-                script.set(&[BREAKS[choice % 5]]);
+            lay_out(script, &met, choice);
+            let mut event = event.clone();
+            if met.contains(&11) {
+                break_arguments(&mut event, choice, numbers.is_empty());
             }
-            if has(10) {
-                script.set(&[(Field::Failed(choice as u8 % 8), position)]);
-            }
-            let mut event = event(ask.kind, ask.unit, ask.call, &[2, 2]);
-            if has(11) {
-                break_arguments(&mut event, choice, ask.numbers.is_empty());
-            }
-            let met = (9..=12).filter(|number| has(*number));
-            let lowest = met.chain(ask.numbers.iter().copied()).min();
-            let answer = lowest.map_or_else(|| "taken".into(), refused);
+            let lowest = met.iter().chain(*numbers).min();
+            let answer = lowest.map_or_else(|| "taken".into(), |number| refused(*number));
             script.offer(&event, &answer);
         }
+    }
+}
+
+/// The saved state with what meets 9, 10 and 12 of the numbers.
+fn lay_out(script: &mut Script, met: &[u8], choice: usize) {
+    let position = if met.contains(&12) { LAST } else { 77 };
+    script.restore();
+    script.set(&[(Field::Position, position)]);
+    if met.contains(&9) {
+        script.set(&[BREAKS[choice % BREAKS.len()]]);
+    }
+    if met.contains(&10) {
+        script.set(&[(Field::Failed(choice as u8 % 8), position)]);
     }
 }
 
@@ -597,20 +537,17 @@ fn break_arguments(event: &mut Record, choice: usize, any_kind: bool) {
 }
 
 fn refusals_together(script: &mut Script) {
-    script.sort = Sort::Reached;
     base_state(script);
-    together(script, false, 0);
-    together(script, false, 3);
-    script.sort = Sort::Reached;
+    together(script, &asks_of_two(), 0);
+    together(script, &asks_of_two(), 3);
     full_state(script);
-    together(script, true, 1);
-    together(script, true, 4);
+    together(script, &asks_of_sixteen(), 1);
+    together(script, &asks_of_sixteen(), 4);
     arguments(script);
 }
 
 /// The edges of 11: units around U, and every number of values up to some that no sheet has.
 fn arguments(script: &mut Script) {
-    script.sort = Sort::Reached;
     base_state(script);
     script.sort = Sort::Together;
     for (kind, unit, count) in (0..=12u8)
@@ -651,17 +588,23 @@ fn refused_sheets() -> Vec<(u8, Vec<u8>)> {
     change(4, base(), &|d| d.front.conditions[1].clear());
     change(5, tiny(), &|d| d.front.conditions.push(vec![7]));
     change(5, base(), &|d| d.front.actions[1][0] = 2);
+    change(6, tiny(), &|d| d.triples.push([0; 4]));
     change(6, base(), &|d| d.transitions[4][5] = 4);
-    change(6, base(), &|d| d.triples[7][1] = 2);
+    change(7, SheetDraft::new(1, 1, 0, &[0]), &|d| {
+        d.front.conditions.push(vec![5, 18, 0, 18, 0]);
+        d.triples.push([0; 4]);
+    });
     change(7, base(), &|d| d.triples[7][2] = 1);
-    change(7, base(), &|d| d.triples[0][3] = 3);
+    change(8, tiny(), &|d| {
+        d.front.conditions.push(vec![0]);
+        d.triples = vec![[0; 4]; 5];
+    });
     change(8, base(), &|d| d.triples[4][1] = 0);
-    change(8, base(), &|d| d.triples[2][0] = 0);
     sheets
 }
 
+/// Nothing of 9 to 15 shows, and no event or state makes a refused sheet a better one.
 fn reading(script: &mut Script) {
-    script.sort = Sort::Reached;
     base_state(script);
     script.sort = Sort::Reading;
     for (number, sheet) in refused_sheets() {
@@ -669,28 +612,38 @@ fn reading(script: &mut Script) {
         script.sheet(&sheet);
         script.fresh(&answer);
         script.offer(&entry(0, 9, &[1, 3]), &answer);
-        let states: [&[Set]; 5] = [
-            &[],
-            &[(Field::Main, 255)],
-            &[(Field::Failed(0), 2)],
-            &[(Field::Position, LAST)],
-            &[(Field::Open, 200), (Field::BadState(9), 4)],
-        ];
-        let events = [
-            entry(0, 9, &[1, 3]),
-            exit(0, 7, &[2, 2]),
-            event(9, 9, 9, &[]),
-            entry(0, 7, &[1, 1]),
-            exit(1, 7, &[1, 1]),
-        ];
-        for (state, event) in states.iter().zip(&events) {
+        for (state, event) in reading_states() {
             script.restore();
             script.set(state);
-            script.offer(event, &answer);
+            script.offer(&event, &answer);
         }
         script.run_records(2, &[entry(0, 9, &[1, 3])], &answer);
         script.run(&[], &answer);
     }
+    // Before 14 too.
+    full_state(script);
+    script.sort = Sort::Reading;
+    for (number, sheet) in refused_sheets() {
+        if sheet.len() <= tiny().bytes().len() + 22 {
+            script.sheet(&sheet);
+            script.offer(&entry(0, 9, &[1, 3]), &refused(number));
+        }
+    }
+}
+
+/// What is set of the base's state, and an event: sound and taken on the base; 9; 10 and 11; 12 and
+/// 13; 9 and 15.
+fn reading_states() -> [(&'static [Set], Record); 5] {
+    [
+        (&[], entry(0, 9, &[1, 3])),
+        (&[(Field::Main, 255)], exit(0, 7, &[2, 2])),
+        (&[(Field::Failed(0), 2)], event(9, 9, 9, &[])),
+        (&[(Field::Position, LAST)], entry(0, 7, &[1, 1])),
+        (
+            &[(Field::Open, 200), (Field::BadState(9), 4)],
+            exit(1, 7, &[1, 1]),
+        ),
+    ]
 }
 
 // ---- Logs -------------------------------------------------------------------------------------

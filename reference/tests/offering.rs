@@ -4,12 +4,20 @@ use reference::monitor_cases::{self, Row, Sort};
 use reference::monitor_frames::{read_frames, Bench, Field, Frame};
 use reference::programs;
 use reference::run::Record;
-use reference::sheet::LONGEST_SHEET;
+use reference::sheet::{Sheet, LONGEST_SHEET};
+use reference::state::Call;
 use std::collections::HashSet;
+use std::sync::OnceLock;
+
+/// Made once for all tests.
+fn rows() -> &'static [Row] {
+    static ROWS: OnceLock<Vec<Row>> = OnceLock::new();
+    ROWS.get_or_init(monitor_cases::all)
+}
 
 #[test]
 fn cases_have_the_answers_written_beside_them() {
-    for (number, row) in monitor_cases::all().iter().enumerate() {
+    for (number, row) in rows().iter().enumerate() {
         let (Some(expected), Some(line)) = (&row.expected, &row.line) else {
             continue;
         };
@@ -32,9 +40,7 @@ fn the_file_is_large_enough_and_small_enough() {
         files.stdout.len()
     );
     let frames = read_frames(&files.stdin).expect("frames fill the file");
-    assert!(frames
-        .iter()
-        .eq(monitor_cases::all().iter().map(|row| &row.frame)));
+    assert!(frames.iter().eq(rows().iter().map(|row| &row.frame)));
     let mut bench = Bench::default();
     let lines = frames.iter().filter_map(|frame| bench.carry_out(frame));
     let lines: String = lines.map(|line| line + "\n").collect();
@@ -59,8 +65,8 @@ fn answer(line: &str) -> String {
 
 #[test]
 fn every_sort_of_case_occurs_often() {
-    let rows = monitor_cases::all();
-    let offers = count(&rows, |row, _| is_offer(row));
+    let rows = rows();
+    let offers = count(rows, |row, _| is_offer(row));
     assert!(offers >= 1_500, "{offers} events");
     for (sort, least) in [
         (Sort::Reached, 500),
@@ -73,22 +79,22 @@ fn every_sort_of_case_occurs_often() {
         (Sort::Foreign, 90),
         (Sort::Shaken, 200),
     ] {
-        let found = count(&rows, |row, _| row.sort == sort && is_offer(row));
+        let found = count(rows, |row, _| row.sort == sort && is_offer(row));
         println!("{sort:?}: {found}");
         assert!(found >= least, "{sort:?}: {found}");
     }
-    let logs = count(&rows, |row, _| matches!(row.frame, Frame::Run(_)));
+    let logs = count(rows, |row, _| matches!(row.frame, Frame::Run(_)));
     println!("events {offers}, logs {logs}");
     assert!(logs >= 100, "{logs} logs");
-    let fresh = count(&rows, |row, _| row.frame == Frame::Fresh);
+    let fresh = count(rows, |row, _| row.frame == Frame::Fresh);
     println!("fresh states {fresh}");
     assert!(fresh >= 80, "{fresh} fresh states");
 }
 
 #[test]
 fn every_answer_to_an_event_occurs_often() {
-    let rows = monitor_cases::all();
-    let offers = |wanted: &str| count(&rows, |row, line| is_offer(row) && answer(line) == wanted);
+    let rows = rows();
+    let offers = |wanted: &str| count(rows, |row, line| is_offer(row) && answer(line) == wanted);
     for number in 1..=15 {
         let wanted = format!("refused {number}");
         let found = offers(&wanted);
@@ -97,7 +103,7 @@ fn every_answer_to_an_event_occurs_often() {
     }
     println!("taken: {}", offers("taken"));
     assert!(offers("taken") >= 500, "taken: {}", offers("taken"));
-    for (number, cause) in causes(&rows, is_offer).into_iter().enumerate() {
+    for (number, cause) in causes(rows, is_offer).into_iter().enumerate() {
         assert!(cause >= 15, "cause {number}: {cause}");
     }
 }
@@ -125,9 +131,9 @@ fn causes(rows: &[Row], of: impl Fn(&Row) -> bool) -> [usize; 3] {
 
 #[test]
 fn every_answer_to_a_log_occurs() {
-    let rows = monitor_cases::all();
+    let rows = rows();
     let runs = |wanted: &dyn Fn(&str) -> bool| {
-        count(&rows, |row, line| {
+        count(rows, |row, line| {
             matches!(row.frame, Frame::Run(_)) && wanted(line)
         })
     };
@@ -143,8 +149,65 @@ fn every_answer_to_a_log_occurs() {
     }
     assert!(runs(&|line| line.starts_with("clean")) >= 20);
     let is_run = |row: &Row| matches!(row.frame, Frame::Run(_));
-    for (number, cause) in causes(&rows, is_run).into_iter().enumerate() {
+    for (number, cause) in causes(rows, is_run).into_iter().enumerate() {
         assert!(cause >= 5, "cause {number}: {cause}");
+    }
+}
+
+/// The refusals of 9 to 15 that an event meets, each judged without regard to the others.
+fn met(bench: &Bench, event: &Record) -> Vec<u8> {
+    let sheet = Sheet::read(&bench.sheet).expect("the sheet is accepted");
+    let header = &sheet.machine.header;
+    let common = &bench.state.common;
+    let open = |call: &&Call| call.number == event.call;
+    let known = common.open_calls().iter().find(open);
+    let arguments = event.kind <= 1
+        && event.unit < header.units
+        && event.values.len() == usize::from(header.program);
+    let meets = [
+        (9, !bench.state.is_sound(&sheet)),
+        (10, common.verdict.is_some()),
+        (11, !arguments),
+        (12, common.position == u32::MAX),
+        (13, event.kind == 0 && known.is_some()),
+        (14, event.kind == 0 && common.open >= 16),
+        (
+            15,
+            event.kind == 1 && known.is_none_or(|call| call.unit != event.unit),
+        ),
+    ];
+    meets
+        .iter()
+        .filter(|(_, is)| *is)
+        .map(|(n, _)| *n)
+        .collect()
+}
+
+#[test]
+fn every_two_refusals_meet_and_the_lowest_answers() {
+    let mut pairs = HashSet::new();
+    let mut alone = HashSet::new();
+    let mut bench = Bench::default();
+    for row in rows() {
+        if let (Sort::Together, Frame::Offer { event, .. }) = (row.sort, &row.frame) {
+            let met = met(&bench, event);
+            let expected = met
+                .first()
+                .map_or("taken".into(), |n| format!("refused {n}"));
+            assert_eq!(row.line.as_deref().map(answer), Some(expected));
+            pairs.extend(met.iter().flat_map(|a| met.iter().map(move |b| (*a, *b))));
+            if let [only] = met[..] {
+                alone.insert(only);
+            }
+        }
+        bench.carry_out(&row.frame);
+    }
+    for a in 9..=15 {
+        assert!(alone.contains(&a), "{a} alone");
+        // An entry is no exit.
+        for b in (a + 1..=15).filter(|b| (a, *b) != (13, 15) && (a, *b) != (14, 15)) {
+            assert!(pairs.contains(&(a, b)), "{a} with {b}");
+        }
     }
 }
 
@@ -152,11 +215,11 @@ fn every_answer_to_a_log_occurs() {
 #[test]
 fn refused_events_change_nothing() {
     let mut bench = Bench::default();
-    for row in monitor_cases::all() {
+    for row in rows() {
         let before = bench.state.clone();
         let line = bench.carry_out(&row.frame);
         assert_eq!(line, row.line);
-        if is_offer(&row) && line.is_some_and(|line| line.starts_with("refused")) {
+        if is_offer(row) && line.is_some_and(|line| line.starts_with("refused")) {
             assert_eq!(bench.state, before);
         }
     }
@@ -226,7 +289,7 @@ fn frames_that_are_cut_are_no_frames() {
 
 #[test]
 fn the_greatest_sheet_occurs_once() {
-    let rows = monitor_cases::all();
+    let rows = rows();
     let longest = |row: &&Row| matches!(&row.frame, Frame::Sheet(s) if s.len() == LONGEST_SHEET);
     assert_eq!(rows.iter().filter(longest).count(), 1);
 }
