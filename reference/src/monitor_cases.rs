@@ -6,7 +6,7 @@ use crate::generate::{self, Manner, Shape, Size};
 use crate::monitor_clauses::{Clause, Set, BASE_CLAUSES, EDGE_CLAUSES, FULL_CLAUSES, TINY_CLAUSES};
 use crate::monitor_frames::{Bench, Field, Frame};
 use crate::random::Random;
-use crate::run::{run_sheet, write_log, Outcome, Record};
+use crate::run::{write_log, Record};
 use crate::sheet::Sheet;
 use crate::sheet_cases::{LOG_A, SHEET_A};
 use crate::state::Cause;
@@ -717,12 +717,11 @@ fn log_refusals(script: &mut Script, program: u8) {
 
 // ---- Random cases -----------------------------------------------------------------------------
 
-const SEED: u64 = 0x5741_5443_4803;
+const SEED: u64 = 0x5741_5443_4806;
 /// Generated sheets, and what is done with each.
 const SHEETS: usize = 32;
-const RUNS: usize = 2;
 const EVENTS: usize = 10;
-/// How often a run or a log is drawn again to end as wished.
+/// How often a run is drawn again to end, or a state to be, as wished.
 const TRIES: usize = 60;
 const FOREIGN: usize = 3;
 const SHAKEN: usize = 7;
@@ -793,30 +792,28 @@ fn random_run(random: &mut Random, sheet: &Sheet, start: &Bench) -> (Vec<Record>
     (events, bench.state.common.verdict.map(|v| v.cause))
 }
 
-/// Two runs. A bad state alone is the likeliest end, so the first is drawn for a verdict with two
-/// causes, the second for a triple or no verdict.
-fn random_runs(script: &mut Script, random: &mut Random, sheet: &Sheet) {
+/// A run from the fresh state, drawn again until its verdict's cause is as wished.
+fn run_to(
+    script: &mut Script,
+    random: &mut Random,
+    sheet: &Sheet,
+    wish: fn(Option<Cause>) -> bool,
+) {
     script.sort = Sort::Reached;
-    let wishes: [fn(Option<Cause>) -> bool; RUNS] = [
-        |cause| matches!(cause, Some(Cause::Both { .. })),
-        |cause| !matches!(cause, Some(Cause::State(_))),
-    ];
-    for wish in wishes {
-        script.fresh("accepted");
-        let (mut events, mut cause) = random_run(random, sheet, &script.bench);
-        for _ in 0..TRIES {
-            if wish(cause) {
-                break;
-            }
-            (events, cause) = random_run(random, sheet, &script.bench);
+    script.fresh("accepted");
+    let (mut events, mut cause) = random_run(random, sheet, &script.bench);
+    for _ in 0..TRIES {
+        if wish(cause) {
+            break;
         }
-        for event in events {
-            script.unknown(&event, true);
-        }
+        (events, cause) = random_run(random, sheet, &script.bench);
+    }
+    for event in events {
+        script.unknown(&event, true);
     }
 }
 
-/// A field that may be broken by it, with a value that may fit.
+/// A field and a value, which may fit the state or not.
 fn random_field(random: &mut Random, sheet: &Sheet, bench: &Bench) -> Set {
     let header = &sheet.machine.header;
     let common = &bench.state.common;
@@ -852,16 +849,32 @@ fn random_field(random: &mut Random, sheet: &Sheet, bench: &Bench) -> Set {
     }
 }
 
-/// States near the one that the runs ended in.
+/// One to three fields, and whether the state is sound with them.
+fn random_fields(random: &mut Random, sheet: &Sheet, start: &Bench) -> (Vec<Set>, bool) {
+    let mut bench = start.clone();
+    let mut fields = Vec::new();
+    for _ in 0..random.pick(&[1, 1, 2, 3]) {
+        let (field, value) = random_field(random, sheet, &bench);
+        bench.carry_out(&Frame::Set(field, value));
+        fields.push((field, value));
+    }
+    (fields, bench.state.is_sound(sheet))
+}
+
+/// States near the one that the runs ended in. Every other one is drawn again until it is sound.
 fn shaken(script: &mut Script, random: &mut Random, sheet: &Sheet) {
     script.sort = Sort::Shaken;
     script.save();
-    for _ in 0..SHAKEN {
+    for number in 0..SHAKEN {
         script.restore();
-        for _ in 0..random.pick(&[1, 1, 2, 3]) {
-            let set = random_field(random, sheet, &script.bench);
-            script.set(&[set]);
+        let (mut fields, mut sound) = random_fields(random, sheet, &script.bench);
+        for _ in 0..TRIES {
+            if sound || number % 2 == 0 {
+                break;
+            }
+            (fields, sound) = random_fields(random, sheet, &script.bench);
         }
+        script.set(&fields);
         let event = random_event(random, sheet, &script.bench);
         script.unknown(&event, false);
     }
@@ -881,18 +894,29 @@ fn random_log(random: &mut Random, draft: &SheetDraft) -> Vec<u8> {
     log
 }
 
-/// A log as it comes, and one that is drawn a few times until it ends in a verdict.
+/// A log as it comes, and the events of the last run that were taken.
 fn random_logs(script: &mut Script, random: &mut Random, draft: &SheetDraft) {
     script.sort = Sort::Log;
+    let taken = taken_events(&script.rows);
     script.add(Frame::Run(random_log(random, draft)), None);
-    let mut log = random_log(random, draft);
-    for _ in 0..TRIES {
-        if matches!(run_sheet(&script.bench.sheet, &log), Outcome::Violated(_)) {
-            break;
+    script.add(Frame::Run(write_log(draft.front.program, &taken)), None);
+}
+
+/// The events that have been taken over since the last fresh state, in order.
+fn taken_events(rows: &[Row]) -> Vec<Record> {
+    let mut events = Vec::new();
+    for row in rows {
+        let taken = row
+            .line
+            .as_ref()
+            .is_some_and(|line| line.starts_with("taken"));
+        match &row.frame {
+            Frame::Fresh => events.clear(),
+            Frame::Offer { event, keep: true } if taken => events.push(event.clone()),
+            _ => {}
         }
-        log = random_log(random, draft);
     }
-    script.add(Frame::Run(log), None);
+    events
 }
 
 fn random_cases(script: &mut Script) {
@@ -908,17 +932,25 @@ fn random_cases(script: &mut Script) {
 fn on_sheet(script: &mut Script, random: &mut Random, draft: &SheetDraft) {
     let bytes = draft.bytes();
     let Ok(sheet) = Sheet::read(&bytes) else {
-        return;
+        return; // Does not happen: drafts are made to be accepted.
     };
+    // The state that the runs on the sheet before ended in.
+    script.restore();
     script.sheet(&bytes);
     script.sort = Sort::Foreign;
     for _ in 0..FOREIGN {
         let event = random_event(random, &sheet, &script.bench);
         script.unknown(&event, false);
     }
-    random_runs(script, random, &sheet);
-    shaken(script, random, &sheet);
+    // A bad state alone is the likeliest end: ask for two causes, then for a triple or no verdict.
+    run_to(script, random, &sheet, |cause| {
+        matches!(cause, Some(Cause::Both { .. }))
+    });
     random_logs(script, random, draft);
+    run_to(script, random, &sheet, |cause| {
+        !matches!(cause, Some(Cause::State(_)))
+    });
+    shaken(script, random, &sheet);
 }
 
 // ---- All --------------------------------------------------------------------------------------

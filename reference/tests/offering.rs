@@ -104,7 +104,7 @@ fn every_answer_to_an_event_occurs_often() {
     println!("taken: {}", offers("taken"));
     assert!(offers("taken") >= 500, "taken: {}", offers("taken"));
     for (number, cause) in causes(rows, is_offer).into_iter().enumerate() {
-        assert!(cause >= 15, "cause {number}: {cause}");
+        assert!(cause >= 12, "cause {number}: {cause}");
     }
 }
 
