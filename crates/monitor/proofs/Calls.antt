@@ -17,7 +17,7 @@ use Rattle.sheet.proofs.Tables.{and-parts}
 use Rattle.step.specs.declared.Verdict.{Verdict}
 use Rattle.step.specs.Lists.{first, keep, any}
 use Rattle.step.specs.Moves.{Configuration}
-use Rattle.step.specs.Calls.{isEntry, isExit, mostCalls, openNumber, openFor, refusals, lowest}
+use Rattle.step.specs.Calls.{isEntry, isExit, mostCalls, lastPosition, openNumber, openFor, refusals, lowest}
 use Rattle.step.proofs.Lists.{none-some, headOf, first-keep, keep-append, keep-none, keep-again, keep-without, any-keep, any-map}
 use Rattle.monitor.specs.Monitor.{Armed, State, initial, fresh, ofNumber, entered, exited, isJudged, refusal, offer}
 use Rattle.monitor.specs.Published.{shift, reached}
@@ -34,6 +34,7 @@ pub record Free (S : Sheet) (σ : State) (e : Event) : Type 0 where
   pub kind : e .kind ≤ 1
   pub unit : e .unit < S .common .units
   pub values : length (e .values) ≡ S .common .programs
+  pub notLast : eqb (σ .position) lastPosition ≡ false
   pub notOpen : (isEntry e && openNumber (e .number) (map (λ a. a .call) (σ .calls))) ≡ false
   pub room : (isEntry e && leb mostCalls (length (map (λ a. a .call) (σ .calls)))) ≡ false
   pub isOpen : (isExit e && not (openFor e (map (λ a. a .call) (σ .calls)))) ≡ false
@@ -51,7 +52,7 @@ unfolding refusal refusals lowest
 free S σ e h =
     let (a, (b, (c, (d, (f, (g, z)))))) = simp cond-iff at h in
     let (k, (u, v)) = simp (not-false-iff, and-iff, leb-iff, eqb-iff) at b in
-    record { unjudged = a; kind = k; unit = u; values = v; notOpen = d; room = f; isOpen = g }
+    record { unjudged = a; kind = k; unit = u; values = v; notLast = c; notOpen = d; room = f; isOpen = g }
 
 unjudged-none : (o : Option Verdict) → isJudged o ≡ false → o ≡ none
 unjudged-none none h = refl

@@ -9,5 +9,15 @@ pub mod Exclusive
 pub mod Rows
 pub mod Starting
 pub mod Triples
+pub mod Choosing
+pub mod Beside
 pub mod Arming
 pub mod Soundness
+pub mod Moving
+pub mod Views
+pub mod Entering
+pub mod Answering
+pub mod Following
+pub mod Testing
+pub mod Checks
+pub mod Leaving

@@ -41,7 +41,7 @@ fresh-sound {s} a =
     rw (lt-ltb (C .start) (C .states) (b .start), eq-eqb _ (C .monitors) (b .initial), b .startGood)
 
 -- What holds of all elements holds of one, and of those that are kept.
-every-among : {A : Type 0} (p : A → Bool) (l : List A) (x : A) → every p l ≡ true → Among x l → p x ≡ true
+pub every-among : {A : Type 0} (p : A → Bool) (l : List A) (x : A) → every p l ≡ true → Among x l → p x ≡ true
 unfolding every
 every-among p [] x h m = absurd m
 every-among p (y ∷ l) x h (inl e) = ap p e ∙ and-parts (p y) (every p l) h .0
@@ -100,7 +100,7 @@ length-acted : (o : Option (List Assignment)) (E : Environment) → length (perf
 length-acted none E = refl
 length-acted (some r) E = length-performed r E
 
-among-at : {A : Type 0} (d : A) (l : List A) (x : A) → Among x l → (i : ℕ) × (i < length l) × (getD l i d ≡ x)
+pub among-at : {A : Type 0} (d : A) (l : List A) (x : A) → Among x l → (i : ℕ) × (i < length l) × (getD l i d ≡ x)
 among-at d [] x m = absurd m
 among-at d (y ∷ l) x (inl e) = (0, omega arith, sym e)
 among-at d (y ∷ l) x (inr m) = let (i, h, e) = among-at d l x m in (suc i, omega arith, e)

@@ -5,12 +5,12 @@ ghost use mathlib.Core.Bool.{cond, not};
 ghost use mathlib.Core.List.{[]};
 ghost use Prim.Native.Nat.{min, _<_, _≤_};
 ghost use lib.Dec.{eqb};
-ghost use lib.ListN.{length, getD, set, take, drop};
+ghost use lib.ListN.{length, set, take, drop};
 ghost use Rattle.condition.specs.Meaning.{environment};
+ghost use Rattle.sheet.specs.Bytes.{byte};
 ghost use Rattle.sheet.specs.Table.{fit, table};
 ghost use Rattle.sheet.specs.Decode.{tripleForm, sheetOf};
 ghost use Rattle.step.specs.Lists.{keep, numbers};
-ghost use Rattle.step.specs.Padding.{zeroCall};
 ghost use Rattle.step.specs.Verdicts.{verdictIn};
 ghost use Rattle.step.specs.Walk.{eventOf};
 ghost use Rattle.monitor.specs.Monitor as Monitor;
@@ -21,6 +21,8 @@ use crate::WatchState;
 use sheet::Header;
 use sheet::Record;
 use step::Call;
+use step::Key;
+use step::Moved;
 use step::Outcome;
 
 // The numbers of an accepted sheet's header, and where its transitions and triples begin.
@@ -40,7 +42,7 @@ pub(crate) fn refusal(
     event: Record,
     values: &[u32],
 ) -> u8
-    requires { ⌜ Prepared (now s) t (now conditions) (now actions) ⌝ }
+    requires { ⌜ Prepared (now s) t (now conditions) (now actions) × Ready (now s) state ⌝ }
     ensures { λ r. ⌜ r ≡ Monitor.refusal (sheetOf (now (s .entry))) (view (sheetOf (now (s .entry))) state) (eventOf event (now (values .entry))) ⌝ }
 {
     let h = t.header;
@@ -65,6 +67,158 @@ fn is_judged(outcome: Outcome) -> bool
         Outcome::Open => false,
         Outcome::Judged(_) => true,
     }
+}
+
+// The state after an event that is not refused.
+pub(crate) fn taken(
+    s: &[u8],
+    t: Tables,
+    conditions: &[u32; 65],
+    actions: &[u32; 65],
+    state: WatchState,
+    event: Record,
+    values: &[u32],
+) -> WatchState
+    requires { ⌜ Prepared (now s) t (now conditions) (now actions) × Ready (now s) state × (Monitor.refusal (sheetOf (now s)) (view (sheetOf (now s)) state) (eventOf event (now values)) ≡ 0) ⌝ }
+    ensures { λ r. ⌜ r ≡ pad (Monitor.offer (sheetOf (now (s .entry))) (view (sheetOf (now (s .entry))) state) (eventOf event (now (values .entry))) .state) ⌝ }
+{
+    if event.kind == 0 {
+        entered(s, t, conditions, actions, state, event, values)
+    } else {
+        exited(s, t, conditions, actions, state, event, values)
+    }
+}
+
+// An entry: the triples of the state held before it are armed, and the values kept.
+fn entered(
+    s: &[u8],
+    t: Tables,
+    conditions: &[u32; 65],
+    actions: &[u32; 65],
+    state: WatchState,
+    event: Record,
+    values: &[u32],
+) -> WatchState
+    requires { ⌜ Prepared (now s) t (now conditions) (now actions) × Ready (now s) state × (Monitor.refusal (sheetOf (now s)) (view (sheetOf (now s)) state) (eventOf event (now values)) ≡ 0) × (event .kind ≡ 0) ⌝ }
+    ensures { λ r. ⌜ r ≡ pad (Monitor.entered (sheetOf (now (s .entry))) (view (sheetOf (now (s .entry))) state) (eventOf event (now (values .entry)))) ⌝ }
+{
+    let h = t.header;
+    let variables = state.variables;
+    let calls = state.calls;
+    let row = state.arms;
+    let moved = moved(
+        s,
+        t,
+        conditions,
+        actions,
+        state.main,
+        variables,
+        event,
+        values,
+    );
+    let arms = arm(
+        s,
+        t.triples,
+        h.last,
+        state.main,
+        event.unit,
+        conditions,
+        values,
+    );
+    let after = moved.variables;
+    let opened = wide(state.opened);
+    let call = Call {
+        number: event.number,
+        unit: event.unit,
+        kept: step::rows::eight(values),
+    };
+    let position = state.position + 1;
+    WatchState {
+        main: moved.main,
+        variables: after,
+        opened: state.opened + 1,
+        calls: step::rows::with_call(calls, opened, call),
+        arms: with_arms(row, opened, arms),
+        position,
+        outcome: step::outcomes::outcome(h.bad, position, moved.main, 256),
+    }
+}
+
+// An exit: the triples armed for its call are judged, and its place is free.
+fn exited(
+    s: &[u8],
+    t: Tables,
+    conditions: &[u32; 65],
+    actions: &[u32; 65],
+    state: WatchState,
+    event: Record,
+    values: &[u32],
+) -> WatchState
+    requires { ⌜ Prepared (now s) t (now conditions) (now actions) × Ready (now s) state × (Monitor.refusal (sheetOf (now s)) (view (sheetOf (now s)) state) (eventOf event (now values)) ≡ 0) × (event .kind ≡ 1) ⌝ }
+    ensures { λ r. ⌜ r ≡ pad (Monitor.exited (sheetOf (now (s .entry))) (view (sheetOf (now (s .entry))) state) (eventOf event (now (values .entry)))) ⌝ }
+{
+    let h = t.header;
+    let variables = state.variables;
+    let calls = state.calls;
+    let row = state.arms;
+    let moved = moved(
+        s,
+        t,
+        conditions,
+        actions,
+        state.main,
+        variables,
+        event,
+        values,
+    );
+    let after = moved.variables;
+    let opened = wide(state.opened);
+    let place = step::call_place(calls, opened, event.number);
+    let low = judged(s, t, conditions, calls[place], row[place], values);
+    let position = state.position + 1;
+    WatchState {
+        main: moved.main,
+        variables: after,
+        opened: state.opened - 1,
+        calls: step::rows::without_call(calls, opened, event.number),
+        arms: without_arms(calls, row, opened, event.number),
+        position,
+        outcome: step::outcomes::outcome(h.bad, position, moved.main, low),
+    }
+}
+
+// The first transition that can be taken: its action, then its state.
+fn moved(
+    s: &[u8],
+    t: Tables,
+    conditions: &[u32; 65],
+    actions: &[u32; 65],
+    main: u8,
+    variables: [u32; 4],
+    event: Record,
+    values: &[u32],
+) -> Moved
+    requires { ⌜ Prepared (now s) t (now conditions) (now actions) × (length (now values) ≡ byte (now s) 5) ⌝ }
+    ensures { λ r. ⌜ r ≡ movedTo (now (s .entry)) main variables (eventOf event (now (values .entry))) ⌝ }
+{
+    let h = t.header;
+    let count = wide(h.monitors);
+    let key = Key {
+        from: main,
+        kind: event.kind,
+        unit: event.unit,
+    };
+    let found = step::first_enabled(
+        s,
+        t.transitions,
+        h.transitions,
+        false,
+        key,
+        conditions,
+        values,
+        &variables[..count],
+    );
+    step::take_transition(s, found, actions, values, main, variables, count)
 }
 
 // The triples of a state and unit whose precondition holds: the first four, and how many.
@@ -118,31 +272,22 @@ fn arms(s: &[u8], at: u32, state: u8, unit: u8, conditions: &[u32; 65], values: 
     }
 }
 
-// The lowest triple armed for the call at a place that fails, or 256.
+// The lowest triple armed for a call that fails at its exit, or 256.
 fn judged(
     s: &[u8],
     t: Tables,
     conditions: &[u32; 65],
-    calls: [Call; 16],
-    arms: [Arms; 16],
-    place: usize,
+    call: Call,
+    arms: Arms,
     values: &[u32],
 ) -> u16
-    requires { ⌜ (place < 16) × (t .header .programs ≤ 8) ⌝ }
-    ensures { λ r. ⌜ r ≡ leastOf 256 (keep (failsAt (now (s .entry)) (now (conditions .entry)) (t .triples) (environment (now (values .entry)) [] (take (t .header .programs) (getD calls place zeroCall .kept)))) (take (getD arms place zeroArms .count) (getD arms place zeroArms .triples))) ⌝ }
+    requires { ⌜ t .header .programs ≤ 8 ⌝ }
+    ensures { λ r. ⌜ r ≡ leastOf 256 (keep (failsAt (now (s .entry)) (now (conditions .entry)) (t .triples) (environment (now (values .entry)) [] (take (t .header .programs) (call .kept)))) (take (arms .count) (arms .triples))) ⌝ }
 {
     let h = t.header;
-    let call = calls[place];
-    let kept = call.kept;
     let count = wide(h.programs);
-    lowest_failing(
-        s,
-        t.triples,
-        arms[place],
-        conditions,
-        values,
-        &kept[..count],
-    )
+    let kept = call.kept;
+    lowest_failing(s, t.triples, arms, conditions, values, &kept[..count])
 }
 
 // The lowest of some triples whose postcondition fails, or 256.

@@ -1,15 +1,20 @@
 // The engine on a sheet: its state, one event, a log.
 
 ghost use mathlib.Core.Path.{_≡_};
+ghost use Rattle.monitor.specs.Answers.{offerOf, runOf};
 ghost use Rattle.monitor.specs.Padded.{zeroState, pad, freshOf};
 ghost use Rattle.monitor.specs.Monitor.{fresh};
 ghost use Rattle.sheet.specs.Decode.{sheetOf};
+ghost use Rattle.step.specs.Walk.{eventOf};
 use sheet::Reading;
+use sheet::Record;
 use step::Answer;
 use step::Call;
 use step::Outcome;
+use step::RunAnswer;
 
 mod event;
+mod follow;
 mod sound;
 
 // The triples armed for an open call: the first `count` of four numbers.
@@ -98,5 +103,29 @@ impl WatchState {
         state.main = h.start;
         state.variables = [w[0], w[1], w[2], w[3]];
         state
+    }
+}
+
+// Offers one event to a state on a sheet: the reading refusals, 9 to 15, or taken. A refused event
+// leaves the state as it was.
+pub fn offer(s: &[u8], state: WatchState, event: Record, values: &[u32]) -> Offered
+    ensures { λ r. ⌜ r ≡ offerOf (now (s .entry)) state (eventOf event (now (values .entry))) ⌝ }
+{
+    match sheet::read_sheet(s) {
+        Reading::Accepted => follow::offer_accepted(s, state, event, values),
+        Reading::Refused(n) => Offered {
+            answer: Answer::Refused(n),
+            state,
+        },
+    }
+}
+
+// Runs a log from the fresh state of a sheet.
+pub fn run(s: &[u8], log: &[u8]) -> RunAnswer
+    ensures { λ r. ⌜ r ≡ runOf (now (s .entry)) (now (log .entry)) ⌝ }
+{
+    match sheet::read_sheet(s) {
+        Reading::Accepted => follow::run_accepted(s, log),
+        Reading::Refused(n) => RunAnswer::Refused(n),
     }
 }

@@ -2,9 +2,8 @@
 
 ghost use mathlib.Core.Path.{_≡_};
 ghost use mathlib.Core.Bool.{_&&_};
-ghost use Prim.Native.Nat.{_≤_};
 ghost use lib.Dec.{eqb, ltb};
-ghost use lib.ListN.{getD, take, drop};
+ghost use lib.ListN.{length, getD, take, drop};
 ghost use Rattle.sheet.specs.Table.{every};
 ghost use Rattle.sheet.specs.Decode.{sheetOf};
 ghost use Rattle.sheet.specs.Reading.{reading, sheetLayout};
@@ -14,11 +13,38 @@ ghost use Rattle.monitor.specs.Sound.{rising, callSound};
 ghost use Rattle.monitor.specs.Padded.{shown, isZeroArms, tidyArms, soundState};
 ghost use Rattle.monitor.specs.Walk.{tablesOf, tripleAt};
 use crate::Arms;
+use crate::WatchState;
 use crate::event::Tables;
 use crate::event::long;
 use crate::event::wide;
 use crate::event::word;
 use step::Call;
+
+pub(crate) fn sound(s: &[u8], t: Tables, state: WatchState) -> bool
+    requires { ⌜ (reading sheetLayout (now s) ≡ 0) × (t ≡ tablesOf (now s)) ⌝ }
+    ensures { λ r. ⌜ r ≡ soundState (sheetOf (now (s .entry))) state ⌝ }
+{
+    let h = t.header;
+    let opened = opened_in(state);
+    let variables = state.variables;
+    let outcome = state.outcome;
+    let calls = state.calls;
+    let arms = state.arms;
+    let tidy = step::rows::clear_from(&variables, wide(h.monitors))
+        & (step::rows::kept_clear(calls, wide(h.programs))
+            & (arms_tidy(arms)
+                & (step::rows::calls_clear(calls, opened) & arms_clear(arms, opened))));
+    let row = step::rows::numbers_distinct(calls, opened) & calls_sound(s, t, calls, arms, opened);
+    let rest = step::outcomes::outcome_fits(h.bad, h.last, state.main, state.position, outcome);
+    (opened <= 16) & (tidy & ((state.main < h.states) & (row & rest)))
+}
+
+// How many calls are open, in rows of sixteen places.
+fn opened_in(state: WatchState) -> usize
+    ensures { λ r. ⌜ (r ≡ state .opened) × (length (state .variables) ≡ 4) × (length (state .calls) ≡ 16) × (length (state .arms) ≡ 16) ⌝ }
+{
+    wide(state.opened)
+}
 
 // Whether at most four triples are armed for each call, with zeros behind them.
 fn arms_tidy(arms: [Arms; 16]) -> bool
@@ -26,15 +52,21 @@ fn arms_tidy(arms: [Arms; 16]) -> bool
 {
     let mut i = 0;
     while i < 16 {
-        let a = arms[i];
-        let count = wide(a.count);
-        let triples = a.triples;
-        if (count <= 4) & triples_clear(triples, count) {} else {
+        if is_tidy(arms[i]) {} else {
             return false;
         }
         i += 1;
     }
     true
+}
+
+fn is_tidy(arms: Arms) -> bool
+    ensures { λ r. ⌜ r ≡ tidyArms arms ⌝ }
+{
+    let count = wide(arms.count);
+    let triples = arms.triples;
+    let clear = triples_clear(triples, count);
+    (count <= 4) & clear
 }
 
 // Whether nothing is armed from a place on.
@@ -93,10 +125,17 @@ fn call_sound(s: &[u8], t: Tables, call: Call, arms: Arms) -> bool
     let h = t.header;
     let count = wide(arms.count);
     let triples = arms.triples;
-    (call.unit < h.units)
+    unit_below(call, h.units)
         & (rising(triples, count)
             & (of_unit(s, t.triples, h.last, triples, count, call.unit)
                 & of_one_state(s, t.triples, triples, count)))
+}
+
+// Whether a call's unit is below U. A call keeps eight values.
+fn unit_below(call: Call, units: u8) -> bool
+    ensures { λ r. ⌜ (r ≡ ltb (call .unit) units) × (length (call .kept) ≡ 8) ⌝ }
+{
+    call.unit < units
 }
 
 // Whether the first `count` of four numbers rise.

@@ -33,7 +33,7 @@ pub record Accepted {T R : Type 0} (F : Layout T R) (s : List ℕ) : Type 0 wher
   pub roled : roled F (commonOf s) (transitionsOf F s) (lastOf F s) ≡ true
   pub spread : F .spread (lastOf F s) ≡ true
 
-unless-iff : (b : Bool) (n rest : ℕ) → eqb n 0 ≡ false → unless b n rest ≡ 0 ↔ (b ≡ true) × (rest ≡ 0)
+pub unless-iff : (b : Bool) (n rest : ℕ) → eqb n 0 ≡ false → unless b n rest ≡ 0 ↔ (b ≡ true) × (rest ≡ 0)
 unless-iff true n rest h = (λ e. (refl, e), λ p. p .1)
 unless-iff false n rest h = (λ e. absurd (eqb-false n 0 h e), λ p. absurd (false≢true (p .0)))
 

@@ -1,15 +1,21 @@
--- Verdicts by their state and their triple. Assumes nothing.
+-- Verdicts by their state and their triple, and outcomes by their case. Assumes nothing.
 use mathlib.Core.Path.{_≡_, refl, sym, _∙_}
 use mathlib.Core.Logic.{_⊎_, inl, inr}
-use mathlib.Core.Bool.{Bool, true, false, cond}
+use mathlib.Core.Bool.{Bool, true, false, not, cond, _&&_}
 use mathlib.Core.Option.{Option, none, some}
-use Prim.Native.Nat.{ℕ}
+use Prim.Native.Nat.{ℕ, _≤_, _<_}
+use borrow.Author.Tests.{lt-ltb, le-ltb}
+use lib.Dec.{eqb, ltb}
 use Rattle.sheet.specs.Parts.{Common}
 use Rattle.sheet.specs.Reading.{isBad}
+use Rattle.sheet.proofs.Tables.{and-true}
 use Rattle.step.specs.declared.Cause.{Cause}
 use Rattle.step.specs.declared.Cause.the-variants as cause
 use Rattle.step.specs.declared.Verdict.{Verdict}
-use Rattle.step.specs.Verdicts.{causeOf, placed, badState, verdict, stateIn, tripleIn}
+use Rattle.step.specs.declared.Outcome.{Outcome}
+use Rattle.step.specs.declared.Outcome.the-variants.{Open, Judged}
+use Rattle.step.specs.Verdicts.{causeOf, placed, badState, verdictFor, verdict, stateIn, tripleIn, ifThere, verdictFits, outcomeOf, verdictIn}
+use Rattle.step.specs.Walk.{numberIn}
 use Rattle.step.proofs.Lists.{none-some}
 
 -- a cause is the one of its state and its triple
@@ -50,3 +56,41 @@ module _ (C : Common) (position main : ℕ) where
       → (v .position ≡ position) × (stateIn (v .cause) ≡ badState (C .bad) main) × (tripleIn (v .cause) ≡ t) × ((isBad (C .bad) main ≡ true) ⊎ ((i : ℕ) × (t ≡ some i)))
   unfolding verdict
   verdict-some t v e = some-step (isBad (C .bad) main) t v e
+
+-- whether a cause is sound, by its case
+abbrev causeFits : ℕ → ℕ → ℕ → Cause → Bool
+causeFits bad triples main c = ifThere (stateIn c) (λ q. eqb q main && isBad bad q) && ifThere (tripleIn c) (λ t. ltb t triples)
+
+module _ (bad triples main : ℕ) (c : Cause) where
+  pub fits-state : (q : ℕ) → c ≡ cause.BadState q → (b : Bool) → b ≡ isBad bad q → (eqb q main && b) ≡ causeFits bad triples main c
+  fits-state q e b f = rw (e, f) (sym (and-true (eqb q main && isBad bad q)))
+
+  pub fits-triple : (t : ℕ) → c ≡ cause.Triple t → ltb t triples ≡ causeFits bad triples main c
+  fits-triple t e = rw e
+
+  pub fits-both : (q t : ℕ) → c ≡ cause.Both q t → (b : Bool) → b ≡ isBad bad q → ((eqb q main && b) && ltb t triples) ≡ causeFits bad triples main c
+  fits-both q t e b f = rw (e, f)
+
+-- whether an outcome is, by its case
+module _ (bad triples main position : ℕ) (o : Outcome) where
+  pub fits-open : o ≡ Open → (b : Bool) → b ≡ isBad bad main → not b ≡ verdictFits bad triples main position (verdictIn o)
+  fits-open e b f = rw (e, f)
+
+  pub fits-judged : (v : Verdict) → o ≡ Judged v → (b : Bool) → b ≡ causeFits bad triples main (v .cause) → (eqb (v .position) position && b) ≡ verdictFits bad triples main position (verdictIn o)
+  fits-judged v e b f = rw (e, f)
+
+-- the outcome, by whether the state is bad and whether a triple fails
+module _ (bad position main lowest : ℕ) (b : Bool) (e : b ≡ isBad bad main) where
+  module _ (h : lowest < 256) where
+    pub outcome-both : b ≡ true → Judged (record { position = position; cause = cause.Both main lowest }) ≡ outcomeOf (verdictFor bad position main (numberIn lowest))
+    outcome-both t = rw (lt-ltb lowest 256 h, ← e, t)
+
+    pub outcome-triple : b ≡ false → Judged (record { position = position; cause = cause.Triple lowest }) ≡ outcomeOf (verdictFor bad position main (numberIn lowest))
+    outcome-triple t = rw (lt-ltb lowest 256 h, ← e, t)
+
+  module _ (h : 256 ≤ lowest) where
+    pub outcome-state : b ≡ true → Judged (record { position = position; cause = cause.BadState main }) ≡ outcomeOf (verdictFor bad position main (numberIn lowest))
+    outcome-state t = rw (le-ltb lowest 256 h, ← e, t)
+
+    pub outcome-open : b ≡ false → Open ≡ outcomeOf (verdictFor bad position main (numberIn lowest))
+    outcome-open t = rw (le-ltb lowest 256 h, ← e, t)

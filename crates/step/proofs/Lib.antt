@@ -3,4 +3,6 @@ pub mod Lists
 pub mod Causes
 pub mod Searching
 pub mod Refusing
+pub mod Filling
+pub mod Turns
 pub mod Bridge

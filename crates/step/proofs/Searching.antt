@@ -1,4 +1,4 @@
--- Looking for the first transition that can be taken. Assumes nothing.
+-- Looking for the first transition that can be taken, and taking it. Assumes nothing.
 use mathlib.Core.Path.{_≡_, refl, sym, ap, _∙_}
 use mathlib.Core.Bool.{Bool, true, false, cond, _&&_}
 use mathlib.Core.List.{List, [], _∷_}
@@ -15,12 +15,12 @@ use Rattle.condition.specs.Answer.{Outcome, conditionOutcome, actionOutcome, ac
 use Rattle.condition.specs.declared.Performed.{Performed}
 use Rattle.sheet.specs.declared.Transition.{Transition}
 use Rattle.sheet.specs.Table.{Form}
-use Rattle.sheet.specs.Decode.{textForm}
+use Rattle.sheet.specs.Decode.{textForm, transitionOf}
 use Rattle.step.specs.declared.Key.{Key}
 use Rattle.step.specs.declared.Found.{Found}
 use Rattle.step.specs.declared.Found.the-variants.{At, Nothing}
 use Rattle.step.specs.Lists.{any}
-use Rattle.step.specs.Walk.{trueOf, meetsAt, actedAt, placeOf, enabledAt, firstPlace}
+use Rattle.step.specs.Walk.{trueOf, meetsAt, actedAt, placeOf, enabledAt, firstPlace, movedAt}
 
 module _ (s index : List ℕ) (i : ℕ) (E : Environment) (k : ℕ) (e : k ≡ i) where
   pub holds-there : k < 65 → (t : List ℕ) → t ≡ textForm .value (drop (getD index k 0) s) → (a : Outcome Bool) → a ≡ conditionOutcome t E → (b : Bool) → b ≡ trueOf a → b ≡ meetsAt s index i E
@@ -71,6 +71,16 @@ module _ (s index : List ℕ) (i : ℕ) (program : List ℕ) (count : ℕ) (vari
   pub acted-past : 65 ≤ k → variables ≡ actedAt s index i program count variables
   acted-past h = rw (← e, le-ltb k 65 h)
 
+-- what was found is taken, or nothing is
+module _ (s index : List ℕ) (found : Found) (values : List ℕ) (main : ℕ) (variables : List ℕ) (count : ℕ) where
+  pub moved-at : (p : ℕ) → found ≡ At p → (t : Transition) → t ≡ transitionOf (drop p s) → (v : List ℕ) → v ≡ actedAt s index (t .action) values count variables → record { main = t .to; variables = v } ≡ movedAt s index found values main variables count
+  moved-at p e t f v x =
+      let y = x ∙ ap (λ (u : Transition). actedAt s index (u .action) values count variables) f in
+      rw e (λ i. record { main = f i .to; variables = y i })
+
+  pub moved-none : found ≡ Nothing → record { main = main; variables = variables } ≡ movedAt s index found values main variables count
+  moved-none e = rw e
+
 -- looking for the first element of a list that passes a test, i of them passed
 pub record Passed {A : Type 0} (p : A → Bool) (l : List A) (i : ℕ) : Type 0 where
   pub same : placeOf p l ≡ i + placeOf p (drop i l)
@@ -92,6 +102,16 @@ module _ {A : Type 0} (p : A → Bool) (l : List A) where
     pub passed-more : p (getD l i d) ≡ false → Passed p l (i + 1)
     unfolding placeOf
     passed-more e = record { same = rw (add-one i) (omega (arith, rw (drop-cons l i d h, e) at (g .same))); low = omega arith }
+
+-- a place is at most the length
+pub place-low : {A : Type 0} (p : A → Bool) (l : List A) → placeOf p l ≤ length l
+unfolding placeOf
+place-low p [] = omega arith
+place-low p (x ∷ l) = go (p x) (place-low p l)
+  where
+    go : (b : Bool) → placeOf p l ≤ length l → cond b 0 (suc (placeOf p l)) ≤ suc (length l)
+    go true h = omega arith
+    go false h = omega arith
 
 -- there is one exactly if its place is within the list
 pub any-place : {A : Type 0} (p : A → Bool) (l : List A) → any p l ≡ ltb (placeOf p l) (length l)

@@ -11,9 +11,12 @@ ghost use Rattle.condition.specs.Answer.{conditionPaper};
 ghost use Rattle.sheet.specs.Decode.{transitionOf};
 ghost use Rattle.step.specs.Lists.{any};
 ghost use Rattle.step.specs.Calls.{refusalsFor, lowest};
-ghost use Rattle.step.specs.Walk.{unpad, eventOf, trueOf, meetsAt, actedAt, placeOf, enabledAt, baseForm, firstPlace};
+ghost use Rattle.step.specs.Walk.{unpad, eventOf, trueOf, meetsAt, actedAt, placeOf, enabledAt, baseForm, firstPlace, movedAt};
 use condition::ConditionAnswer;
 use sheet::Record;
+
+pub mod outcomes;
+pub mod rows;
 
 // Why a verdict is complete: the bad state, the lowest failing triple, or both.
 pub enum Cause {
@@ -226,6 +229,30 @@ pub fn first_enabled(
         left -= 1;
     }
     Found::Nothing
+}
+
+// The main state and the variables after the transition that was found: its action, then its state.
+pub fn take_transition(
+    s: &[u8],
+    found: Found,
+    index: &[u32; 65],
+    values: &[u32],
+    main: u8,
+    variables: [u32; 4],
+    count: usize,
+) -> Moved
+    ensures { λ r. ⌜ r ≡ movedAt (now (s .entry)) (now (index .entry)) found (now (values .entry)) main variables count ⌝ }
+{
+    match found {
+        Found::At(place) => {
+            let t = sheet::transition_at(s, place);
+            Moved {
+                main: t.to,
+                variables: perform_action(s, index, t.action, values, variables, count),
+            }
+        }
+        Found::Nothing => Moved { main, variables },
+    }
 }
 
 // Whether the transition at a place can be taken. Its condition is evaluated only where the rest fits.

@@ -1,0 +1,174 @@
+-- From the definition of one event to what offering it answers. Assumes nothing.
+use mathlib.Core.Path.{_≡_, refl, sym, ap, _∙_}
+use mathlib.Core.Bool.{Bool, true, false, cond, false≢true}
+use mathlib.Core.List.{List, [], _∷_, map}
+use Prim.Native.Nat.{ℕ, zero, suc, _≤_}
+use native.Mathlib.Omega.{arith}
+use borrow.Author.Tests.{eq-eqb, ne-eqb}
+use lib.ListN.{length, take}
+use Rattle.sheet.specs.declared.Record.{Record}
+use Rattle.sheet.specs.declared.Header.{Header}
+use Rattle.sheet.specs.declared.LogReading.{LogReading}
+use Rattle.sheet.specs.declared.LogReading.the-variants as log
+use Rattle.sheet.specs.declared.Reading.{Reading}
+use Rattle.sheet.specs.declared.Reading.the-variants.{Accepted, Refused}
+use Rattle.sheet.specs.Table.{fit}
+use Rattle.sheet.specs.Decode.{commonOf, sheetOf}
+use Rattle.sheet.specs.Reading.{reading, sheetLayout}
+use Rattle.sheet.specs.Bytes.{byte}
+use Rattle.sheet.specs.Log.{logReading, recordsIn, eventsOf}
+use Rattle.sheet.specs.Answer.{answer, logAnswer, headerOf}
+use Rattle.step.specs.declared.Call.{Call}
+use Rattle.step.specs.declared.Answer.{Answer}
+use Rattle.step.specs.declared.Answer.the-variants as offer
+use Rattle.step.specs.declared.RunAnswer.{RunAnswer}
+use Rattle.step.specs.declared.RunAnswer.the-variants as run
+use Rattle.step.specs.Calls as Calls
+use Rattle.step.specs.Calls.{refusalsFor, refusals, lowest}
+use Rattle.step.specs.Verdicts.{verdictIn}
+use Rattle.step.specs.Walk.{unpad, eventOf}
+use Rattle.monitor.specs.declared.WatchState.{WatchState}
+use Rattle.monitor.specs.declared.Offered.{Offered}
+use Rattle.monitor.specs.declared.event.Tables.{Tables}
+use Rattle.monitor.specs.Monitor as Monitor
+use Rattle.monitor.specs.Padded.{zeroArms, pad, view, soundState}
+use Rattle.step.specs.Padding.{zeroCall}
+use Rattle.step.specs.Answers.{answerOf}
+use Rattle.monitor.specs.Answers.{offerRefusal, whenTaken, offerOf, ranAnswer, unlessRefused, runOf}
+use Rattle.monitor.specs.Walk.{Prepared, Ready}
+use Rattle.monitor.proofs.Calls.{free, offer-taken}
+use Rattle.monitor.proofs.Views.{view-calls}
+
+-- the two rows of a sound state have the same length
+length-fit : {A : Type 0} (n : ℕ) (d : A) (l : List A) → length (fit n d l) ≡ n
+unfolding fit
+length-fit zero d l = refl
+length-fit (suc n) d [] = ap suc (length-fit n d [])
+length-fit (suc n) d (x ∷ l) = ap suc (length-fit n d l)
+
+ready-rows : {s : List ℕ} {w : WatchState} → Ready s w → length (w .calls) ≡ length (w .arms)
+unfolding pad
+ready-rows {s} {w} r =
+    let e = ap (λ (u : WatchState). length (u .calls)) (r .padded) in
+    let f = ap (λ (u : WatchState). length (u .arms)) (r .padded) in
+    sym e ∙ length-fit 16 zeroCall _ ∙ sym (length-fit 16 zeroArms _) ∙ f
+
+-- The refusals of an event, from the calls of a state.
+pub refusal-there : {s : List ℕ} {t : Tables} {c i : List ℕ} (p : Prepared s t c i) (w : WatchState) → Ready s w → (event : Record) (values : List ℕ)
+    → (b : Bool) → b ≡ Monitor.isJudged (verdictIn (w .outcome)) → (n : ℕ) → n ≡ w .opened
+    → (x : ℕ) → x ≡ lowest (refusalsFor (t .header .units) (t .header .programs) b (w .position) (map (unpad (t .header .programs)) (take n (w .calls))) (eventOf event values))
+    → x ≡ Monitor.refusal (sheetOf s) (view (sheetOf s) w) (eventOf event values)
+unfolding Monitor.refusal refusals view sheetOf commonOf
+refusal-there {s} p w r event values b eb n en x ex =
+    let long = ready-rows r in
+    let P = commonOf s .programs in
+    let same = ap (λ (l : List Calls.Call). lowest (refusalsFor (commonOf s .units) P (Monitor.isJudged (verdictIn (w .outcome))) (w .position) l (eventOf event values))) (view-calls (sheetOf s) w long) in
+    ex ∙ rw (eb, en, p .tables) (sym same)
+
+-- A taken event is an entry or an exit.
+module _ (S : _) (σ : Monitor.State) (event : Record) (values : List ℕ) (z : Monitor.refusal S σ (eventOf event values) ≡ 0) where
+  pub kind-exit : (event .kind ≡ 0 → ⊥) → event .kind ≡ 1
+  kind-exit h = omega (arith, free S σ (eventOf event values) z .kind)
+
+  module _ (r : WatchState) where
+    pub taken-entry : event .kind ≡ 0 → r ≡ pad (Monitor.entered S σ (eventOf event values)) → r ≡ pad (Monitor.offer S σ (eventOf event values) .state)
+    taken-entry h e = e ∙ sym (ap pad (offer-taken S σ (eventOf event values) z ∙ rw (eq-eqb (event .kind) 0 h)))
+
+    pub taken-exit : (event .kind ≡ 0 → ⊥) → r ≡ pad (Monitor.exited S σ (eventOf event values)) → r ≡ pad (Monitor.offer S σ (eventOf event values) .state)
+    taken-exit h e = e ∙ sym (ap pad (offer-taken S σ (eventOf event values) z ∙ rw (ne-eqb (event .kind) 0 h)))
+
+abbrev isRefused : Reading → Bool
+isRefused Accepted = false
+isRefused (Refused n) = true
+
+-- What offering an event answers.
+abbrev offeredWith : Answer → WatchState → Offered
+offeredWith a w = record { answer = a; state = w }
+
+refused-with : (n : ℕ) → (n ≡ 0 → ⊥) → (w τ : WatchState) → offeredWith (offer.Refused n) w ≡ offeredWith (answerOf n) (whenTaken n w τ)
+refused-with zero k w τ = absurd (k refl)
+refused-with (suc n) k w τ = refl
+
+module _ (s : List ℕ) (w : WatchState) (event : Record) (values : List ℕ) where
+  module _ (a : reading sheetLayout s ≡ 0) where
+    pub unsound : soundState (sheetOf s) w ≡ false → offeredWith (offer.Refused 9) w ≡ offerOf s w (eventOf event values)
+    unfolding offerOf offerRefusal
+    unsound h = rw (a, h)
+
+    module _ (h : soundState (sheetOf s) w ≡ true) (n : ℕ) (e : n ≡ Monitor.refusal (sheetOf s) (view (sheetOf s) w) (eventOf event values)) where
+      pub offer-takes : n ≡ 0 → (τ : WatchState) → τ ≡ pad (Monitor.offer (sheetOf s) (view (sheetOf s) w) (eventOf event values) .state) → offeredWith offer.Taken τ ≡ offerOf s w (eventOf event values)
+      unfolding offerOf offerRefusal
+      offer-takes z τ f = rw (a, h, ← e, z, f)
+
+      pub offer-refuses : (n ≡ 0 → ⊥) → offeredWith (offer.Refused n) w ≡ offerOf s w (eventOf event values)
+      unfolding offerOf offerRefusal
+      offer-refuses k = rw (a, h, ← e) (refused-with n k w _)
+
+-- a sheet that is not read
+abbrev asOffered : Reading → Answer
+asOffered Accepted = offer.Taken
+asOffered (Refused n) = offer.Refused n
+
+abbrev asRun : Reading → RunAnswer
+asRun Accepted = run.Refused 0
+asRun (Refused n) = run.Refused n
+
+module _ (s : List ℕ) (r : Reading) (er : r ≡ answer (reading sheetLayout s)) where
+  pub read-accepted : r ≡ Accepted → reading sheetLayout s ≡ 0
+  read-accepted h = go (reading sheetLayout s) (sym er ∙ h)
+    where
+      go : (m : ℕ) → answer m ≡ Accepted → m ≡ 0
+      go zero e = refl
+      go (suc m) e = absurd (false≢true (sym (ap isRefused e)))
+
+  refused-number : (n : ℕ) → r ≡ Refused n → (m : ℕ) × (reading sheetLayout s ≡ suc m) × (Refused n ≡ Refused (suc m))
+  refused-number n h = go (reading sheetLayout s) (sym er ∙ h)
+    where
+      go : (m : ℕ) → answer m ≡ Refused n → (k : ℕ) × (m ≡ suc k) × (Refused n ≡ Refused (suc k))
+      go zero e = absurd (false≢true (ap isRefused e))
+      go (suc m) e = (m, refl, sym e)
+
+  pub offer-unread : (n : ℕ) → r ≡ Refused n → (w : WatchState) (event : Record) (values : List ℕ) → offeredWith (offer.Refused n) w ≡ offerOf s w (eventOf event values)
+  unfolding offerOf offerRefusal
+  offer-unread n h w event values =
+      let (m, f, e) = refused-number n h in
+      rw f (ap (λ (x : Reading). offeredWith (asOffered x) w) e)
+
+  pub run-unread : (n : ℕ) → r ≡ Refused n → (log : List ℕ) → run.Refused n ≡ runOf s log
+  unfolding runOf
+  run-unread n h log =
+      let (m, f, e) = refused-number n h in
+      rw f (ap asRun e)
+
+-- a log that is read, or not
+abbrev isRecords : LogReading → Bool
+isRecords (log.Records n) = true
+isRecords (log.Refused n) = false
+
+abbrev asLogged : LogReading → RunAnswer
+asLogged (log.Records n) = run.Refused 0
+asLogged (log.Refused n) = run.Refused n
+
+module _ (s l : List ℕ) (h : Header) (eh : h ≡ headerOf s) (r : LogReading) (er : r ≡ logAnswer (logReading (h .programs) l) (recordsIn (h .programs) l)) where
+  answered : r ≡ logAnswer (logReading (byte s 5) l) (recordsIn (byte s 5) l)
+  answered = er ∙ ap (λ (x : Header). logAnswer (logReading (x .programs) l) (recordsIn (x .programs) l)) eh
+
+  pub log-read : (n : ℕ) → r ≡ log.Records n → logReading (byte s 5) l ≡ 0
+  log-read n e = go (logReading (byte s 5) l) (sym answered ∙ e)
+    where
+      go : (m : ℕ) → logAnswer m (recordsIn (byte s 5) l) ≡ log.Records n → m ≡ 0
+      go zero e = refl
+      go (suc m) e = absurd (false≢true (ap isRecords e))
+
+  module _ (a : reading sheetLayout s ≡ 0) where
+    pub run-follows : (n : ℕ) → r ≡ log.Records n → (x : RunAnswer) → x ≡ ranAnswer (Monitor.run (sheetOf s) (eventsOf (byte s 5) l)) → x ≡ runOf s l
+    unfolding runOf
+    run-follows n e x f = rw (a, log-read n e) f
+
+    pub run-unlogged : (n : ℕ) → r ≡ log.Refused n → run.Refused n ≡ runOf s l
+    unfolding runOf
+    run-unlogged n e = rw a (go (logReading (byte s 5) l) (sym answered ∙ e))
+      where
+        go : (m : ℕ) → logAnswer m (recordsIn (byte s 5) l) ≡ log.Refused n → run.Refused n ≡ unlessRefused m (ranAnswer (Monitor.run (sheetOf s) (eventsOf (byte s 5) l)))
+        go zero e = absurd (false≢true (sym (ap isRecords e)))
+        go (suc m) e = ap asLogged (sym e)

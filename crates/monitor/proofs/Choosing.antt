@@ -1,0 +1,120 @@
+-- The triples that an entry arms, and the lowest that fails at an exit, as the loops find them. Assumes nothing.
+use mathlib.Core.Path.{_≡_, refl, sym, ap, _∙_}
+use mathlib.Core.Bool.{Bool, true, false, not, _&&_}
+use mathlib.Core.List.{List, [], _∷_}
+use Prim.Native.Nat.{ℕ, suc, _+_, _-_, _*_, min, _≤_, _<_}
+use native.Mathlib.Nat.{sub-zero}
+use native.Mathlib.Numerals.{add-one}
+use native.Mathlib.Omega.{arith}
+use lib.Dec.{eqb}
+use lib.ListN.{length, getD, set, take, drop, replicate, length-take}
+use lib.Seq.{getD-take}
+use Rattle.condition.specs.Meaning.{Environment}
+use Rattle.sheet.specs.declared.Triple.{Triple}
+use Rattle.sheet.specs.Table.{Form, records, table, fit}
+use Rattle.sheet.specs.Decode.{tripleForm}
+use Rattle.sheet.proofs.Tables.{table-step}
+use Rattle.step.specs.Lists.{keep, numbers}
+use Rattle.step.specs.Walk.{meetsAt}
+use Rattle.step.proofs.Filling.{Filling, filling-start, filling-store, filling-past, filling-end, keep-none-left, keep-here, keep-not-here}
+use Rattle.monitor.specs.declared.Arms.{Arms}
+use Rattle.monitor.specs.Padded.{padArms}
+use Rattle.monitor.specs.Walk.{armsAt, failsAt, leastOf}
+
+module _ (s index : List ℕ) (state unit : ℕ) (E : Environment) (t u : Triple) (e : t ≡ u) where
+  pub arms-there : (eqb (t .state) state && eqb (t .unit) unit) ≡ true → (b : Bool) → b ≡ meetsAt s index (t .precondition) E → b ≡ armsAt s index state unit E u
+  arms-there h b x = rw (← e, h) x
+
+  pub arms-not : (eqb (t .state) state && eqb (t .unit) unit) ≡ false → false ≡ armsAt s index state unit E u
+  arms-not h = rw (← e, h)
+
+pub fails-there : (s index : List ℕ) (at n : ℕ) (E : Environment) (a b : ℕ) → a ≡ at → b ≡ n → (t : Triple) → t ≡ tripleForm .value (drop (a + 4 * b) s) → (m : Bool) → m ≡ meetsAt s index (t .postcondition) E
+    → not m ≡ failsAt s index at E n
+fails-there s index at n E a b e f t g m h = rw (← e, ← f) (ap not (h ∙ ap (λ (u : Triple). meetsAt s index (u .postcondition) E) g))
+
+-- The numbers of the records that pass a test: i records seen, `count` of them chosen, of which the first four are stored.
+pub record Choosing {A : Type 0} (p : A → Bool) (F : Form A) (n : ℕ) (s : List ℕ) (at : ℕ) (out : List ℕ) (count i place : ℕ) : Type 0 where
+  pub fill : Filling 4 0 (numbers p 0 (table F n s at)) out count (numbers p i (table F (n - i) s place))
+  pub many : count + length (numbers p i (table F (n - i) s place)) ≡ length (numbers p 0 (table F n s at))
+  pub few : i ≤ n
+  pub low : count ≤ i
+  pub there : place ≡ at + 4 * i
+
+abbrev armsOf : ℕ → List ℕ → Arms
+armsOf count out = record { count = count; triples = out }
+
+module _ {A : Type 0} (p : A → Bool) (F : Form A) (n : ℕ) (s : List ℕ) (at : ℕ) where
+  abbrev whole : List ℕ
+  whole = numbers p 0 (table F n s at)
+
+  pub choosing-start : Choosing p F n s at (replicate 4 0) 0 0 at
+  choosing-start = record { fill = rw (sub-zero n) (filling-start 4 0 whole); many = rw (sub-zero n) (omega arith); few = omega arith; low = omega arith; there = omega arith }
+
+  module _ (sized : (t : List ℕ) → F .size t ≡ 4) (out : List ℕ) (count i place : ℕ) (g : Choosing p F n s at out count i place) (h : i < n) where
+    left : n - i ≡ suc (n - (i + 1))
+    left = omega arith
+
+    abbrev rest : List ℕ
+    rest = numbers p (i + 1) (table F (n - (i + 1)) s (place + 4))
+
+    module _ (t : p (F .value (drop place s)) ≡ true) where
+      here : numbers p i (table F (n - i) s place) ≡ i ∷ rest
+      unfolding numbers
+      here = rw (left, table-step F (n - (i + 1)) s place, t, sized (drop place s), add-one i)
+
+      pub choosing-store : Choosing p F n s at (set out count i) (count + 1) (i + 1) (place + 4)
+      choosing-store =
+          record {
+            fill = filling-store 4 0 whole out count i rest (rw here at (g .fill));
+            many = omega (arith, rw here at (g .many));
+            few = omega arith;
+            low = omega (arith, g .low);
+            there = omega (arith, g .there);
+          }
+
+      pub choosing-past : 4 ≤ count → Choosing p F n s at out (count + 1) (i + 1) (place + 4)
+      choosing-past full =
+          record {
+            fill = filling-past 4 0 whole out count i rest (rw here at (g .fill)) full;
+            many = omega (arith, rw here at (g .many));
+            few = omega arith;
+            low = omega (arith, g .low);
+            there = omega (arith, g .there);
+          }
+
+    pub choosing-leave : p (F .value (drop place s)) ≡ false → Choosing p F n s at out count (i + 1) (place + 4)
+    unfolding numbers
+    choosing-leave t =
+        let away : numbers p i (table F (n - i) s place) ≡ rest = rw (left, table-step F (n - (i + 1)) s place, t, sized (drop place s), add-one i) in
+        record { fill = rw away at (g .fill); many = rw away at (g .many); few = omega arith; low = omega (arith, g .low); there = omega (arith, g .there) }
+
+  pub choosing-end : (out : List ℕ) (count i place : ℕ) → Choosing p F n s at out count i place → n ≤ i → armsOf count out ≡ padArms (numbers p 0 (table F n s at))
+  unfolding numbers records
+  choosing-end out count i place g h =
+      let none : n - i ≡ 0 = omega arith in
+      let e : out ≡ fit 4 0 whole = filling-end 4 0 whole out count _ (g .fill) (rw none) in
+      let f : count ≡ length whole = omega (arith, rw none at (g .many)) in
+      rw (e, f)
+
+-- The least of those among the first `count` numbers of an array that pass a test, i of them seen.
+module _ (p : ℕ → Bool) (row : List ℕ) (count low i top : ℕ) (g : leastOf low (keep p (drop i (take count row))) ≡ leastOf top (keep p (take count row))) where
+  ended : (k : ℕ) → count ≡ k → length (take count row) ≤ i → low ≡ leastOf top (keep p (take k row))
+  unfolding leastOf
+  ended k e h = rw (← e) (rw (keep-none-left p (take count row) i h) at g)
+
+  pub least-end : (k : ℕ) → count ≡ k → count ≤ i → low ≡ leastOf top (keep p (take k row))
+  least-end k e h = ended k e (omega (arith, length-take count row))
+
+  pub least-far : (k : ℕ) → count ≡ k → length row ≤ i → low ≡ leastOf top (keep p (take k row))
+  least-far k e h = ended k e (omega (arith, length-take count row))
+
+  module _ (d : ℕ) (h : i < count) (k : i < length row) where
+    there : i < length (take count row)
+    there = omega (arith, length-take count row)
+
+    pub least-here : p (getD row i d) ≡ true → leastOf (min low (getD row i d)) (keep p (drop (i + 1) (take count row))) ≡ leastOf top (keep p (take count row))
+    unfolding leastOf
+    least-here t = rw (add-one i) (rw (keep-here p (take count row) i d there (rw (getD-take count row i d h) t), getD-take count row i d h) at g)
+
+    pub least-not-here : p (getD row i d) ≡ false → leastOf low (keep p (drop (i + 1) (take count row))) ≡ leastOf top (keep p (take count row))
+    least-not-here t = rw (add-one i) (rw (keep-not-here p (take count row) i d there (rw (getD-take count row i d h) t)) at g)

@@ -1,0 +1,360 @@
+-- An exit: the call's place, the triples judged there, and the state without the call. Assumes nothing.
+use mathlib.Core.Path.{_≡_, refl, sym, ap, ap₂, subst, _∙_}
+use mathlib.Core.Logic.{inl, inr}
+use mathlib.Core.Bool.{Bool, true, false, not, cond, _&&_, false≢true}
+use mathlib.Core.Option.{Option, none, some}
+use mathlib.Core.List.{List, [], _∷_, map}
+use Prim.Native.Nat.{ℕ, zero, suc, _+_, _-_, min, _≤_, _<_}
+use native.Mathlib.Omega.{arith}
+use borrow.Author.Tests.{ltb-true, lt-ltb, eqb-true, eqb-false, eq-eqb, ne-eqb, not-false}
+use lib.Dec.{eqb, ltb}
+use lib.ListN.{length, getD, take, length-map}
+use lib.Seq.{getD-take}
+use Rattle.condition.specs.Meaning.{environment}
+use Rattle.sheet.specs.declared.Triple.{Triple}
+use Rattle.sheet.specs.declared.Record.{Record}
+use Rattle.sheet.specs.Table.{fit}
+use Rattle.sheet.specs.Decode.{transitionForm, lastAt, commonOf, sheetOf}
+use Rattle.sheet.specs.Reading.{lastOf, sheetLayout}
+use Rattle.sheet.specs.Log.{Event}
+use Rattle.sheet.proofs.Accepted.{Accepted, accepted, bounds, sheet-triple}
+use Rattle.sheet.proofs.Tables.{and-parts}
+use Rattle.sheet.proofs.Tests.{and-iff, leb-iff, eqb-iff, not-iff}
+use Rattle.step.specs.declared.Call.{Call}
+use Rattle.step.specs.declared.Moved.{Moved}
+use Rattle.step.specs.declared.Outcome.{Outcome}
+use Rattle.step.specs.Lists.{first, keep, any, lesser, least, distinct}
+use Rattle.step.specs.Moves.{Configuration}
+use Rattle.step.specs.Calls as Calls
+use Rattle.step.specs.Verdicts.{verdictFor, verdict, outcomeOf}
+use Rattle.step.specs.Walk.{meetsAt, placeOf, eventOf, numberIn}
+use Rattle.step.specs.Padding.{zeroCall, padCall}
+use Rattle.step.proofs.Lists.{Among, any-map, first-passes, kept-passes, least-some}
+use Rattle.step.proofs.Searching.{any-place}
+use Rattle.step.proofs.Bridge.{conditionPlaces, after-meets}
+use Rattle.monitor.specs.declared.Arms.{Arms}
+use Rattle.monitor.specs.declared.WatchState.{WatchState}
+use Rattle.monitor.specs.declared.event.Tables.{Tables}
+use Rattle.monitor.specs.Monitor.{Armed, State, tripleIn, fails, failing, ofNumber, exited, refusal}
+use Rattle.monitor.specs.Sound.{callSound, sound}
+use Rattle.monitor.specs.Padded.{zeroArms, padArms, pad, view}
+use Rattle.monitor.specs.Walk.{tablesOf, Prepared, Ready, movedTo, failsAt, leastOf, keepBeside}
+use Rattle.monitor.proofs.Broken.{noTriple}
+use Rattle.monitor.proofs.Calls.{free}
+use Rattle.monitor.proofs.Soundness.{every-among}
+use Rattle.monitor.proofs.Moving.{moved-fits}
+use Rattle.monitor.proofs.Triples.{triple-there}
+use Rattle.monitor.proofs.Views.{take-fit, take-fitted}
+
+-- Of a list's images: those that pass a test, what stands beside them, the place of the first, and the one at a place.
+module _ {A B : Type 0} (p : B → Bool) (f : A → B) where
+  keep-map : (l : List A) → keep p (map f l) ≡ map f (keep (λ x. p (f x)) l)
+  unfolding keep
+  keep-map [] = refl
+  keep-map (x ∷ l) = go (p (f x)) (keep-map l)
+    where
+      go : (b : Bool) → keep p (map f l) ≡ map f (keep (λ x. p (f x)) l) → cond b (f x ∷ keep p (map f l)) (keep p (map f l)) ≡ map f (cond b (x ∷ keep (λ x. p (f x)) l) (keep (λ x. p (f x)) l))
+      go true h = ap (λ (m : List B). f x ∷ m) h
+      go false h = h
+
+  beside-map : {C : Type 0} (g : A → C) (l : List A) → keepBeside p (map f l) (map g l) ≡ map g (keep (λ x. p (f x)) l)
+  unfolding keep keepBeside
+  beside-map g [] = refl
+  beside-map {C} g (x ∷ l) = go (p (f x)) (beside-map g l)
+    where
+      go : (b : Bool) → keepBeside p (map f l) (map g l) ≡ map g (keep (λ x. p (f x)) l)
+          → cond b (g x ∷ keepBeside p (map f l) (map g l)) (keepBeside p (map f l) (map g l)) ≡ map g (cond b (x ∷ keep (λ x. p (f x)) l) (keep (λ x. p (f x)) l))
+      go true h = ap (λ (m : List C). g x ∷ m) h
+      go false h = h
+
+  place-map : (l : List A) → placeOf p (map f l) ≡ placeOf (λ x. p (f x)) l
+  unfolding placeOf
+  place-map [] = refl
+  place-map (x ∷ l) = ap (λ n. cond (p (f x)) 0 (suc n)) (place-map l)
+
+image-at : {A B : Type 0} (f : A → B) (d : B) (e : A) (l : List A) (i : ℕ) → i < length l → getD (map f l) i d ≡ f (getD l i e)
+image-at f d e [] i h = absurd (omega arith)
+image-at f d e (x ∷ l) zero h = refl
+image-at f d e (x ∷ l) (suc i) h = image-at f d e l i (omega arith)
+
+-- Of a list: the first that passes a test stands at its place; a weaker test is passed too; tests that agree on its elements keep the same.
+module _ {A : Type 0} (p : A → Bool) where
+  first-place : (d : A) (l : List A) → any p l ≡ true → first p l ≡ some (getD l (placeOf p l) d)
+  unfolding first any placeOf
+  first-place d [] h = absurd (false≢true h)
+  first-place d (x ∷ l) h = go (p x) h (first-place d l)
+    where
+      go : (b : Bool) → cond b true (any p l) ≡ true → (any p l ≡ true → first p l ≡ some (getD l (placeOf p l) d)) → cond b (some x) (first p l) ≡ some (getD (x ∷ l) (cond b 0 (suc (placeOf p l))) d)
+      go true h k = refl
+      go false h k = k h
+
+  any-weaker : (q : A → Bool) → ((x : A) → q x ≡ true → p x ≡ true) → (l : List A) → any q l ≡ true → any p l ≡ true
+  unfolding any
+  any-weaker q h [] e = e
+  any-weaker q h (x ∷ l) e = go (p x) (q x) (h x) e (any-weaker q h l)
+    where
+      go : (b c : Bool) → (c ≡ true → b ≡ true) → cond c true (any q l) ≡ true → (any q l ≡ true → any p l ≡ true) → cond b true (any p l) ≡ true
+      go true c i e k = refl
+      go false true i e k = absurd (false≢true (i refl))
+      go false false i e k = k e
+
+  keep-same : (q : A → Bool) (l : List A) → ((x : A) → Among x l → p x ≡ q x) → keep p l ≡ keep q l
+  unfolding keep
+  keep-same q [] h = refl
+  keep-same q (x ∷ l) h = rw (h x (inl refl), keep-same q l (λ y m. h y (inr m)))
+
+-- Of different numbers all but one stay.
+module _ {A : Type 0} (f : A → ℕ) (n : ℕ) where
+  all-stay : (l : List A) → any (eqb n) (map f l) ≡ false → keep (λ a. not (eqb (f a) n)) l ≡ l
+  unfolding any keep
+  all-stay [] h = refl
+  all-stay (x ∷ l) h = go (eqb n (f x)) refl h (all-stay l)
+    where
+      go : (b : Bool) → eqb n (f x) ≡ b → cond b true (any (eqb n) (map f l)) ≡ false → (any (eqb n) (map f l) ≡ false → keep (λ a. not (eqb (f a) n)) l ≡ l)
+          → cond (not (eqb (f x) n)) (x ∷ keep (λ a. not (eqb (f a) n)) l) (keep (λ a. not (eqb (f a) n)) l) ≡ x ∷ l
+      go true e h k = absurd (false≢true (sym h))
+      go false e h k = rw (ne-eqb (f x) n (λ q. eqb-false n (f x) e (sym q))) (ap (λ (r : List A). x ∷ r) (k h))
+
+  one-fewer : (l : List A) → distinct (map f l) ≡ true → any (λ a. eqb (f a) n) l ≡ true → suc (length (keep (λ a. not (eqb (f a) n)) l)) ≡ length l
+  unfolding any keep distinct
+  one-fewer [] d h = absurd (false≢true h)
+  one-fewer (x ∷ l) d h =
+      let (i, j) = simp (and-iff, not-iff) at d in
+      go (eqb (f x) n) refl h i (one-fewer l j)
+    where
+      go : (b : Bool) → eqb (f x) n ≡ b → cond b true (any (λ a. eqb (f a) n) l) ≡ true → any (eqb (f x)) (map f l) ≡ false
+          → (any (λ a. eqb (f a) n) l ≡ true → suc (length (keep (λ a. not (eqb (f a) n)) l)) ≡ length l)
+          → suc (length (cond (not b) (x ∷ keep (λ a. not (eqb (f a) n)) l) (keep (λ a. not (eqb (f a) n)) l))) ≡ suc (length l)
+      go true e h i k = ap (λ (r : List A). suc (length r)) (all-stay l (subst (λ m. any (eqb m) (map f l) ≡ false) (eqb-true (f x) n e) i))
+      go false e h i k = ap suc (k h)
+
+-- The least of some bytes, by a number past them.
+abbrev under : ℕ → Option ℕ → ℕ
+under n none = n
+under n (some m) = min n m
+
+least-under : (n : ℕ) (l : List ℕ) → leastOf n l ≡ under n (least l)
+unfolding leastOf least
+least-under n [] = refl
+least-under n (m ∷ l) = least-under (min n m) l ∙ go (least l)
+  where
+    go : (o : Option ℕ) → under (min n m) o ≡ under n (lesser m o)
+    go none = refl
+    go (some k) = omega arith
+
+number-under : (o : Option ℕ) → ((m : ℕ) → o ≡ some m → m < 256) → numberIn (under 256 o) ≡ o
+number-under none h = refl
+number-under (some m) h =
+    let low = h m refl in
+    let e : min 256 m ≡ m = omega arith in
+    rw (e, lt-ltb m 256 low)
+
+number-least : (l : List ℕ) → ((m : ℕ) → Among m l → m < 256) → numberIn (leastOf 256 l) ≡ least l
+number-least l h = ap numberIn (least-under 256 l) ∙ number-under (least l) (λ m e. h m (least-some l m e .0))
+
+-- The calls of a state and what is armed for them, as the arrays hold them.
+abbrev noArmed : Armed
+noArmed = record { call = record { number = 0; unit = 0; kept = [] }; armed = [] }
+
+abbrev callsIn : List Armed → List Call
+callsIn l = fit 16 zeroCall (map (λ (a : Armed). padCall (a .call)) l)
+
+abbrev armsIn : List Armed → List Arms
+armsIn l = fit 16 zeroArms (map (λ (a : Armed). padArms (a .armed)) l)
+
+module _ (n : ℕ) (l : List Armed) (few : length l ≤ 16) where
+  abbrev callIn : Armed → Call
+  callIn a = padCall (a .call)
+
+  abbrev armedIn : Armed → Arms
+  armedIn a = padArms (a .armed)
+
+  calls-out : take (length l) (callsIn l) ≡ map (λ (a : Armed). padCall (a .call)) l
+  calls-out = take-fitted zeroCall 16 (length l) (map callIn l) (length-map l callIn) few
+
+  arms-out : take (length l) (armsIn l) ≡ map (λ (a : Armed). padArms (a .armed)) l
+  arms-out = take-fitted zeroArms 16 (length l) (map armedIn l) (length-map l armedIn) few
+
+  calls-left : fit 16 zeroCall (keep (λ (c : Call). not (eqb (c .number) n)) (take (length l) (callsIn l))) ≡ callsIn (keep (λ a. not (ofNumber n a)) l)
+  calls-left =
+      let q : Call → Bool = λ c. not (eqb (c .number) n) in
+      ap (λ (r : List Call). fit 16 zeroCall (keep q r)) calls-out ∙ ap (fit 16 zeroCall) (keep-map q callIn l)
+
+  arms-left : fit 16 zeroArms (keepBeside (λ (c : Call). not (eqb (c .number) n)) (take (length l) (callsIn l)) (take (length l) (armsIn l))) ≡ armsIn (keep (λ a. not (ofNumber n a)) l)
+  arms-left =
+      let q : Call → Bool = λ c. not (eqb (c .number) n) in
+      ap₂ (λ (r : List Call) (t : List Arms). fit 16 zeroArms (keepBeside q r t)) calls-out arms-out ∙ ap (fit 16 zeroArms) (beside-map q callIn armedIn l)
+
+  place-in : placeOf (λ (c : Call). eqb (c .number) n) (take (length l) (callsIn l)) ≡ placeOf (ofNumber n) l
+  place-in =
+      let q : Call → Bool = λ c. eqb (c .number) n in
+      ap (placeOf q) calls-out ∙ place-map q callIn l
+
+  module _ (i : ℕ) (h : i < length l) where
+    call-at : (d : Call) → getD (callsIn l) i d ≡ padCall (getD l i noArmed .call)
+    call-at d = sym (getD-take (length l) (callsIn l) i d h) ∙ ap (λ (r : List Call). getD r i d) calls-out ∙ image-at callIn d noArmed l i h
+
+    arms-at : (d : Arms) → getD (armsIn l) i d ≡ padArms (getD l i noArmed .armed)
+    arms-at d = sym (getD-take (length l) (armsIn l) i d h) ∙ ap (λ (r : List Arms). getD r i d) arms-out ∙ image-at armedIn d noArmed l i h
+
+-- The triples armed for a call of a sound state fail at its exit as the definition says.
+module _ {s : List ℕ} (a : Accepted sheetLayout s) (k : Configuration) (e : Event) (p : length (e .values) ≡ commonOf s .programs) (c : Armed) (h : callSound (sheetOf s) c ≡ true) where
+  armed-exists : (i : ℕ) → Among i (c .armed) → i < length (lastOf sheetLayout s)
+  unfolding callSound sheetOf
+  armed-exists i m =
+      let v = simp and-iff at h .1 .1 .1 .1 .0 in
+      let there = every-among (λ i. ltb i (length (lastOf sheetLayout s)) && eqb (tripleIn (sheetOf s) i .unit) (c .call .unit)) (c .armed) i v m in
+      ltb-true i (length (lastOf sheetLayout s)) (and-parts _ _ there .0)
+
+  kept-many : length (c .call .kept) ≡ commonOf s .programs
+  unfolding callSound sheetOf
+  kept-many = simp (and-iff, eqb-iff) at h .1 .0
+
+  armed-few : length (c .armed) ≤ 4
+  unfolding callSound
+  armed-few = simp (and-iff, leb-iff) at h .1 .1 .0
+
+  fails-same : (i : ℕ) → Among i (c .armed)
+      → failsAt s (conditionPlaces s) (lastAt transitionForm s) (environment (e .values) [] (c .call .kept)) i ≡ fails (sheetOf s) k e (c .call) i
+  unfolding fails sheetOf
+  fails-same i m =
+      let E = environment (e .values) [] (c .call .kept) in
+      let g = sheet-triple a i noTriple (armed-exists i m) in
+      ap not
+      (ap (λ (t : Triple). meetsAt s (conditionPlaces s) (t .postcondition) E) (triple-there a i)
+      ∙ after-meets a (omega arith) (tripleIn (sheetOf s) i .postcondition) (g .postcondition) (g .noMonitorAfter) (e .values) (k .variables) p (c .call .kept) kept-many)
+
+  judged-same : (call : Call) (arms : Arms) → call ≡ padCall (c .call) → arms ≡ padArms (c .armed)
+      → numberIn (leastOf 256 (keep (failsAt s (conditionPlaces s) (lastAt transitionForm s) (environment (e .values) [] (take (commonOf s .programs) (call .kept)))) (take (arms .count) (arms .triples))))
+      ≡ least (keep (fails (sheetOf s) k e (c .call)) (c .armed))
+  judged-same call arms x y =
+      let low : List ℕ → List ℕ → List ℕ = λ kept armed. keep (failsAt s (conditionPlaces s) (lastAt transitionForm s) (environment (e .values) [] kept)) armed in
+      let kept = ap (λ (r : Call). take (commonOf s .programs) (r .kept)) x ∙ take-fitted 0 8 (commonOf s .programs) (c .call .kept) kept-many (bounds a .programs) in
+      let armed = ap (λ (r : Arms). take (r .count) (r .triples)) y ∙ take-fit 0 4 (c .armed) armed-few in
+      let kept-are = kept-passes (fails (sheetOf s) k e (c .call)) (c .armed) in
+      ap (λ (l : List ℕ). numberIn (leastOf 256 l)) (ap₂ low kept armed ∙ keep-same _ (fails (sheetOf s) k e (c .call)) (c .armed) fails-same)
+      ∙ number-least (keep (fails (sheetOf s) k e (c .call)) (c .armed)) (λ i m. omega (arith, armed-exists i (kept-are i m .0), bounds a .last))
+
+-- The place of the call that ends, the lowest failing triple there, and the state after the exit, from the state as it is held.
+abbrev pub placeIn : Event → WatchState → ℕ
+placeIn e w = placeOf (λ (c : Call). eqb (c .number) (e .number)) (take (w .opened) (w .calls))
+
+abbrev pub lowIn : List ℕ → Tables → List ℕ → Event → Call → Arms → ℕ
+lowIn s t index e call arms = leastOf 256 (keep (failsAt s index (t .triples) (environment (e .values) [] (take (t .header .programs) (call .kept)))) (take (arms .count) (arms .triples)))
+
+abbrev leftBy : List ℕ → Tables → List ℕ → Event → Call → Arms → WatchState → WatchState
+leftBy s t index e noCall noArms w =
+    record {
+      main = movedTo s (w .main) (w .variables) e .main;
+      variables = movedTo s (w .main) (w .variables) e .variables;
+      opened = w .opened - 1;
+      calls = fit 16 zeroCall (keep (λ (c : Call). not (eqb (c .number) (e .number))) (take (w .opened) (w .calls)));
+      arms = fit 16 zeroArms (keepBeside (λ (c : Call). not (eqb (c .number) (e .number))) (take (w .opened) (w .calls)) (take (w .opened) (w .arms)));
+      position = w .position + 1;
+      outcome = outcomeOf (verdictFor (t .header .bad) (w .position + 1) (movedTo s (w .main) (w .variables) e .main) (numberIn (lowIn s t index e (getD (w .calls) (placeIn e w) noCall) (getD (w .arms) (placeIn e w) noArms))));
+    }
+
+-- An exit that is not refused, on a sound state.
+module _ {s : List ℕ} (a : Accepted sheetLayout s) (σ : State) (e : Event) (h : sound (sheetOf s) σ ≡ true) (z : refusal (sheetOf s) σ e ≡ 0) (x : e .kind ≡ 1) where
+  number-open : any (ofNumber (e .number)) (σ .calls) ≡ true
+  number-open =
+      let q : Calls.Call → Bool = λ c. eqb (c .number) (e .number) && eqb (c .unit) (e .unit) in
+      let o : Calls.openFor e (map (λ (c : Armed). c .call) (σ .calls)) ≡ true = not-false _ (rw (eq-eqb (e .kind) 1 x) at (free (sheetOf s) σ e z .isOpen)) in
+      any-weaker (ofNumber (e .number)) (λ (c : Armed). q (c .call)) (λ c m. and-parts (eqb (c .call .number) (e .number)) (eqb (c .call .unit) (e .unit)) m .0) (σ .calls)
+      (sym (any-map q (λ (c : Armed). c .call) (σ .calls)) ∙ o)
+
+  calls-few : length (σ .calls) ≤ 16
+  unfolding sound
+  calls-few = simp (and-iff, leb-iff) at h .1 .1 .0
+
+  place-below : placeOf (ofNumber (e .number)) (σ .calls) < length (σ .calls)
+  place-below = ltb-true _ _ (sym (any-place (ofNumber (e .number)) (σ .calls)) ∙ number-open)
+
+  held-place : (placeIn e (pad σ) < pad σ .opened) × (pad σ .opened ≤ 16)
+  unfolding pad
+  held-place = (rw (place-in (e .number) (σ .calls) calls-few) place-below, calls-few)
+
+  values-there : length (e .values) ≡ commonOf s .programs
+  unfolding sheetOf
+  values-there = free (sheetOf s) σ e z .values
+
+  judged-right : (d : Call) (f : Arms)
+      → numberIn (lowIn s (tablesOf s) (conditionPlaces s) e (getD (pad σ .calls) (placeIn e (pad σ)) d) (getD (pad σ .arms) (placeIn e (pad σ)) f))
+      ≡ failing (sheetOf s) (σ .configuration) e (first (ofNumber (e .number)) (σ .calls))
+  unfolding pad sound commonOf
+  judged-right d f =
+      let n = e .number in
+      let l = σ .calls in
+      let place = placeOf (ofNumber n) l in
+      let c = getD l place noArmed in
+      let here = first-place (ofNumber n) noArmed l number-open in
+      let good = every-among (callSound (sheetOf s)) l c (simp and-iff at h .1 .1 .1 .1 .0) (first-passes (ofNumber n) l c here .0) in
+      let there = place-in n l calls-few in
+      judged-same a (σ .configuration) e values-there c good _ _
+      (ap (λ (j : ℕ). getD (callsIn l) j d) there ∙ call-at n l calls-few place place-below d)
+      (ap (λ (j : ℕ). getD (armsIn l) j f) there ∙ arms-at n l calls-few place place-below f)
+      ∙ ap (failing (sheetOf s) (σ .configuration) e) (sym here)
+
+  variables-many : length (σ .configuration .variables) ≡ commonOf s .monitors
+  unfolding sound sheetOf
+  variables-many = simp (and-iff, eqb-iff) at h .1 .0
+
+  one-less : length (σ .calls) - 1 ≡ length (keep (λ c. not (ofNumber (e .number) c)) (σ .calls))
+  unfolding sound
+  one-less = omega (arith, one-fewer (λ (c : Armed). c .call .number) (e .number) (σ .calls) (simp and-iff at h .1 .1 .1 .0) number-open)
+
+  left-is : (d : Call) (f : Arms) → leftBy s (tablesOf s) (conditionPlaces s) e d f (pad σ) ≡ pad (exited (sheetOf s) σ e)
+  unfolding pad exited verdict sheetOf commonOf
+  left-is d f =
+      let m = moved-fits a (σ .configuration) e variables-many in
+      let judged : ℕ → Option ℕ → Outcome = λ main t. outcomeOf (verdictFor (commonOf s .bad) (σ .position + 1) main t) in
+      let outcome = ap₂ judged (ap (λ (r : Moved). r .main) m) (judged-right d f) in
+      λ i. record {
+        main = m i .main;
+        variables = m i .variables;
+        opened = one-less i;
+        calls = calls-left (e .number) (σ .calls) calls-few i;
+        arms = arms-left (e .number) (σ .calls) calls-few i;
+        position = σ .position + 1;
+        outcome = outcome i;
+      }
+
+-- The same on a state as it is held, with what the calls answer.
+module _ {s : List ℕ} {t : Tables} {c i : List ℕ} (p : Prepared s t c i) {w : WatchState} (r : Ready s w) (event : Record) (values : List ℕ)
+    (z : refusal (sheetOf s) (view (sheetOf s) w) (eventOf event values) ≡ 0) (x : event .kind ≡ 1) where
+  abbrev e : Event
+  e = eventOf event values
+
+  exit-place : (placeIn (eventOf event values) w < w .opened) × (w .opened ≤ 16)
+  exit-place = subst (λ (v : WatchState). (placeIn e v < v .opened) × (v .opened ≤ 16)) (r .padded) (held-place (accepted sheetLayout s (p .accepted)) (view (sheetOf s) w) e (r .sound) z x)
+
+  pub place-fits : (opened : ℕ) → opened ≡ w .opened → (place : ℕ) → place ≡ placeOf (λ (c : Call). eqb (c .number) (event .number)) (take opened (w .calls)) → place < 16
+  place-fits opened eo place ep =
+      let (h, k) = exit-place in
+      rw (ep, eo) (omega arith)
+
+  pub some-open : 1 ≤ w .opened
+  some-open = omega (arith, exit-place .0)
+
+  pub left : (m : Moved) → m ≡ movedTo s (w .main) (w .variables) (eventOf event values) → (opened : ℕ) → opened ≡ w .opened
+      → (place : ℕ) → place ≡ placeOf (λ (c : Call). eqb (c .number) (event .number)) (take opened (w .calls))
+      → (d : Call) (f : Arms) (low : ℕ) → low ≡ lowIn s t c (eventOf event values) (getD (w .calls) place d) (getD (w .arms) place f)
+      → (calls : List Call) → calls ≡ fit 16 zeroCall (keep (λ (c : Call). not (eqb (c .number) (event .number))) (take opened (w .calls)))
+      → (arms : List Arms) → arms ≡ fit 16 zeroArms (keepBeside (λ (c : Call). not (eqb (c .number) (event .number))) (take opened (w .calls)) (take opened (w .arms)))
+      → (o : Outcome) → o ≡ outcomeOf (verdictFor (t .header .bad) (w .position + 1) (m .main) (numberIn low))
+      → record { main = m .main; variables = m .variables; opened = w .opened - 1; calls = calls; arms = arms; position = w .position + 1; outcome = o } ≡ pad (exited (sheetOf s) (view (sheetOf s) w) (eventOf event values))
+  left m em opened eo place ep d f low el calls ec arms ea o ej =
+      let q : Call → Bool = λ c. not (eqb (c .number) (event .number)) in
+      let there : place ≡ placeIn e w = ep ∙ ap (λ (j : ℕ). placeOf (λ (c : Call). eqb (c .number) (event .number)) (take j (w .calls))) eo in
+      let lowest = el ∙ ap (λ (j : ℕ). lowIn s t c e (getD (w .calls) j d) (getD (w .arms) j f)) there in
+      let judged : ℕ → ℕ → Outcome = λ main n. outcomeOf (verdictFor (t .header .bad) (w .position + 1) main (numberIn n)) in
+      let outcome = ej ∙ ap₂ judged (ap (λ (v : Moved). v .main) em) lowest in
+      let rows = ec ∙ ap (λ (j : ℕ). fit 16 zeroCall (keep q (take j (w .calls)))) eo in
+      let beside = ea ∙ ap (λ (j : ℕ). fit 16 zeroArms (keepBeside q (take j (w .calls)) (take j (w .arms)))) eo in
+      let known : record { main = m .main; variables = m .variables; opened = w .opened - 1; calls = calls; arms = arms; position = w .position + 1; outcome = o } ≡ leftBy s t c e d f w =
+      λ j. record { main = em j .main; variables = em j .variables; opened = w .opened - 1; calls = rows j; arms = beside j; position = w .position + 1; outcome = outcome j } in
+      known
+      ∙ ap (λ (v : Tables). leftBy s v c e d f w) (p .tables)
+      ∙ ap (λ (v : List ℕ). leftBy s (tablesOf s) v e d f w) (p .conditions)
+      ∙ ap (leftBy s (tablesOf s) (conditionPlaces s) e d f) (sym (r .padded))
+      ∙ left-is (accepted sheetLayout s (p .accepted)) (view (sheetOf s) w) e (r .sound) z x d f

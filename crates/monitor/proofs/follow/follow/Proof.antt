@@ -1,0 +1,134 @@
+-- `follow::follow` meets its contract. Assumes nothing.
+use mathlib.Core.Path.{_≡_, refl, sym, _∙_}
+use Prim.Native.Nat.{_+_, _-_, _*_, _≤_, _<_}
+use native.Mathlib.Omega.{arith}
+use borrow.Author.Needs.{needs}
+use lib.ListN.{length}
+use lib.Seq.{length-take-le}
+use Rattle.sheet.specs.Reading.{sheetLayout}
+use Rattle.sheet.proofs.Accepted.{accepted}
+use Rattle.monitor.proofs.Moving.{programs-few}
+use Rattle.monitor.proofs.Following.{event-there, values-count, record-size, Following, follow-start, follow-ready, follow-end, follow-room, follow-refused, follow-violated, follow-next}
+use Rattle.monitor.proofs.follow.follow.Statement.{statement}
+use Rattle.monitor.proofs.follow.follow.Tie as tie
+
+abbrev Inv-loop : tie.InvT-loop
+Inv-loop s t conditions actions log h count size end state₀ i₀ at₀ state i at = Following s log state i at end
+
+abbrev μ-loop : tie.MeasureT-loop
+μ-loop s t conditions actions log h count size end state₀ i₀ at₀ state i at = end - at
+
+loop-holds : tie.Need-loop-holds Inv-loop μ-loop
+loop-holds c =
+    let b = c .before .before .before .before .before .before .before in
+    let p = b .pre in
+    let a = accepted sheetLayout (b .args .s .now) (p .0 .accepted) in
+    let small : c .before .word-at .result < 4294967296 = search needs in
+    follow-start a (b .args .log .now) (p .1) _ (c .started .ensures) _ (c .before .word-at .ensures) small
+
+add-words-at : tie.Need-add-words-at Inv-loop μ-loop
+add-words-at c =
+    let b = c .before .before .before .before .before .before .before .before .before .before in
+    let p = b .pre in
+    let a = accepted sheetLayout (b .args .s .now) (p .0 .accepted) in
+    let g = c .before .before .loop .inv in
+    let h = c .before .loop-test .taken in
+    let room = follow-room a (b .args .log .now) _ _ _ _ g h in
+    let small : c .before .before .loop .at + 4 < 4294967296 = omega (arith, g .fits) in
+    search (needs, small)
+
+array-share-prefix-words : tie.Need-array-share-prefix-words Inv-loop μ-loop
+array-share-prefix-words c =
+    let few = programs-few (c .before .before .before .before .before .before .before .before .before .before .before .pre .0) in
+    let long : length (c .words-at .result) ≡ 8 = search needs in
+    omega (arith, c .before .before .before .before .before .before .before .wide .ensures .0)
+
+slice-aggregate-values : tie.Need-slice-aggregate-values Inv-loop μ-loop
+slice-aggregate-values c =
+    let few = programs-few (c .before .before .before .before .before .before .before .before .before .before .before .before .pre .0) in
+    let long : length (c .before .words-at .result) ≡ 8 = search needs in
+    sym (length-take-le _ _ (omega (arith, c .before .before .before .before .before .before .before .before .wide .ensures .0)))
+
+refusal-requires : tie.Need-refusal-requires Inv-loop μ-loop
+refusal-requires c κs =
+    let b = c .before .before .before .before .before .before .before .before .before .before .before .before in
+    let p = b .pre in
+    let a = accepted sheetLayout (b .args .s .now) (p .0 .accepted) in
+    (p .0, follow-ready a (b .args .log .now) _ _ _ _ (c .before .before .before .before .loop .inv))
+
+add-i : tie.Need-add-i Inv-loop μ-loop
+add-i c =
+    let g = c .before .before .before .before .before .loop .inv in
+    let h = c .before .before .before .before .loop-test .taken in
+    let small : c .before .before .before .before .before .loop .i + 1 < 4294967296 = omega (arith, g .low, g .fits) in
+    search (needs, small)
+
+returns : tie.Need-returns Inv-loop μ-loop
+returns c =
+    let b = c .before .before .before .before .before .before .before .before .before .before .before .before .before .before in
+    let p = b .pre in
+    let a = accepted sheetLayout (b .args .s .now) (p .0 .accepted) in
+    let g = c .before .before .before .before .before .before .loop .inv in
+    let h = c .before .before .before .before .before .loop-test .taken in
+    let few = programs-few (p .0) in
+    let count = values-count (p .0) _ (c .before .before .before .before .before .before .before .before .before .before .wide .ensures .0) in
+    let programs = values-count (p .0) _ refl in
+    let there = event-there _ (rw programs at few) (b .args .log .now) (c .before .before .before .before .before .before .loop .at) _ (c .before .before .before .before .record-at .ensures) _ count _ programs _ (c .before .before .before .words-at .ensures) in
+    follow-refused a (b .args .log .now) _ _ _ _ g h _ there _ (c .before .refusal .ensures) (c .if1 .left)
+
+taken-requires : tie.Need-taken-requires Inv-loop μ-loop
+taken-requires c κs =
+    let b = c .before .before .before .before .before .before .before .before .before .before .before .before .before .before in
+    let p = b .pre in
+    let a = accepted sheetLayout (b .args .s .now) (p .0 .accepted) in
+    (p .0, follow-ready a (b .args .log .now) _ _ _ _ (c .before .before .before .before .before .before .loop .inv), sym (c .before .refusal .ensures) ∙ c .if1 .taken)
+
+returns-2 : tie.Need-returns-2 Inv-loop μ-loop
+returns-2 c =
+    let b = c .before .before .before .before .before .before .before .before .before .before .before .before .before .before .before .before .before .before in
+    let p = b .pre in
+    let a = accepted sheetLayout (b .args .s .now) (p .0 .accepted) in
+    let g = c .before .before .before .before .before .before .before .before .before .before .loop .inv in
+    let h = c .before .before .before .before .before .before .before .before .before .loop-test .taken in
+    let few = programs-few (p .0) in
+    let count = values-count (p .0) _ (c .before .before .before .before .before .before .before .before .before .before .before .before .before .before .wide .ensures .0) in
+    let programs = values-count (p .0) _ refl in
+    let there = event-there _ (rw programs at few) (b .args .log .now) (c .before .before .before .before .before .before .before .before .before .before .loop .at) _ (c .before .before .before .before .before .before .before .before .record-at .ensures) _ count _ programs _ (c .before .before .before .before .before .before .before .words-at .ensures) in
+    follow-violated a (b .args .log .now) _ _ _ _ g h _ there (sym (c .before .before .before .before .before .refusal .ensures) ∙ c .before .before .before .before .if1 .taken) _ (c .before .before .before .taken .ensures) _ (c .before .outcome .given .1)
+
+add-at : tie.Need-add-at Inv-loop μ-loop
+add-at c =
+    let b = c .before .before .before .before .before .before .before .before .before .before .before .before .before .before .before .before .before in
+    let p = b .pre in
+    let a = accepted sheetLayout (b .args .s .now) (p .0 .accepted) in
+    let g = c .before .before .before .before .before .before .before .before .before .loop .inv in
+    let h = c .before .before .before .before .before .before .before .before .loop-test .taken in
+    let room = follow-room a (b .args .log .now) _ _ _ _ g h in
+    let size = record-size (p .0) _ (c .before .before .before .before .before .before .before .before .before .before .before .before .word .ensures .0) in
+    let small : c .before .before .before .before .before .before .before .before .before .loop .at + (4 + 4 * c .before .before .before .before .before .before .before .before .before .before .before .before .word .result) < 4294967296 = omega (arith, g .fits) in
+    search (needs, small)
+
+loop-again : tie.Need-loop-again Inv-loop μ-loop
+loop-again c =
+    let b = c .before .before .before .before .before .before .before .before .before .before .before .before .before .before .before .before .before in
+    let p = b .pre in
+    let a = accepted sheetLayout (b .args .s .now) (p .0 .accepted) in
+    let g = c .before .before .before .before .before .before .before .before .before .loop .inv in
+    let h = c .before .before .before .before .before .before .before .before .loop-test .taken in
+    let few = programs-few (p .0) in
+    let count = values-count (p .0) _ (c .before .before .before .before .before .before .before .before .before .before .before .before .before .wide .ensures .0) in
+    let programs = values-count (p .0) _ refl in
+    let there = event-there _ (rw programs at few) (b .args .log .now) (c .before .before .before .before .before .before .before .before .before .loop .at) _ (c .before .before .before .before .before .before .before .record-at .ensures) _ count _ programs _ (c .before .before .before .before .before .before .words-at .ensures) in
+    follow-next a (b .args .log .now) _ _ _ _ g h _ there (sym (c .before .before .before .before .refusal .ensures) ∙ c .before .before .before .if1 .taken) _ (c .before .before .taken .ensures) (c .enum-told .given .1) _ (record-size (p .0) _ (c .before .before .before .before .before .before .before .before .before .before .before .before .word .ensures .0))
+
+returns-3 : tie.Need-returns-3 Inv-loop μ-loop
+returns-3 c =
+    let b = c .before .before .before .before .before .before .before .before .before in
+    let p = b .pre in
+    let a = accepted sheetLayout (b .args .s .now) (p .0 .accepted) in
+    follow-end a (b .args .log .now) _ _ _ _ (c .before .loop .inv) (c .loop-test .left)
+
+pub follow-spec : {M : Type 1} → statement M
+follow-spec =
+    tie.close
+    (tie.spec Inv-loop μ-loop (λ c κs. search needs) (λ c κs. search needs) (λ c. search needs) (λ c. search needs) (λ c κs. search needs) (λ c κs. search needs) loop-holds (λ c κs. search needs) add-words-at (λ c κs. search needs) array-share-prefix-words slice-aggregate-values refusal-requires add-i returns taken-requires (λ c. search needs) returns-2 (λ c. search needs) add-at (λ c. search needs) loop-again returns-3)

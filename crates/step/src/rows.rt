@@ -1,0 +1,148 @@
+// Rows of calls: the first `opened` of sixteen places, with zeros behind them.
+
+ghost use mathlib.Core.Path.{_≡_};
+ghost use mathlib.Core.Bool.{not};
+ghost use mathlib.Core.List.{map};
+ghost use lib.Dec.{eqb};
+ghost use lib.ListN.{length, set, take, drop};
+ghost use Rattle.sheet.specs.Table.{every, fit};
+ghost use Rattle.step.specs.Lists.{keep, distinct};
+ghost use Rattle.step.specs.Padding.{zeroCall, clear, padded, isZeroCall};
+use crate::Call;
+
+// The place of no call.
+pub fn no_call() -> Call
+    ensures { λ r. ⌜ r ≡ zeroCall ⌝ }
+{
+    Call {
+        number: 0,
+        unit: 0,
+        kept: [0; 8],
+    }
+}
+
+// The row with a call at a place; a place past the end stores nothing.
+pub fn with_call(calls: [Call; 16], at: usize, call: Call) -> [Call; 16]
+    ensures { λ r. ⌜ r ≡ set calls at call ⌝ }
+{
+    let mut out = calls;
+    if at < 16 {
+        out[at] = call;
+    }
+    out
+}
+
+// The first `opened` calls but for those of a number, closed up.
+pub fn without_call(calls: [Call; 16], opened: usize, number: u16) -> [Call; 16]
+    ensures { λ r. ⌜ r ≡ fit 16 zeroCall (keep (λ c. not (eqb (c .number) number)) (take opened calls)) ⌝ }
+{
+    let mut out = [no_call(); 16];
+    let mut i = 0;
+    let mut j = 0;
+    while i < opened {
+        if i < 16 {
+            let c = calls[i];
+            if c.number == number {} else {
+                out[j] = c;
+                j += 1;
+            }
+        } else {
+            return out;
+        }
+        i += 1;
+    }
+    out
+}
+
+// Up to eight values, zeros behind them.
+pub fn eight(values: &[u32]) -> [u32; 8]
+    ensures { λ r. ⌜ r ≡ fit 8 0 (now (values .entry)) ⌝ }
+{
+    let mut out = [0u32; 8];
+    let mut i = 0;
+    while i < values.len() {
+        if i < 8 {
+            out[i] = values[i];
+        } else {
+            return out;
+        }
+        i += 1;
+    }
+    out
+}
+
+// Whether all values from a place on are zero.
+pub fn clear_from(values: &[u32], from: usize) -> bool
+    ensures { λ r. ⌜ r ≡ clear from (now (values .entry)) ⌝ }
+{
+    let mut i = from;
+    while i < values.len() {
+        if values[i] == 0 {} else {
+            return false;
+        }
+        i += 1;
+    }
+    true
+}
+
+// Whether a call keeps zeros from a value's number on.
+fn keeps_clear(call: Call, from: usize) -> bool
+    ensures { λ r. ⌜ (r ≡ clear from (call .kept)) × (length (call .kept) ≡ 8) ⌝ }
+{
+    clear_from(&call.kept, from)
+}
+
+// Whether it is the place of no call.
+fn is_no_call(call: Call) -> bool
+    ensures { λ r. ⌜ r ≡ isZeroCall call ⌝ }
+{
+    let clear = keeps_clear(call, 0);
+    (call.number == 0) & ((call.unit == 0) & clear)
+}
+
+// Whether every call keeps zeros from a value's number on.
+pub fn kept_clear(calls: [Call; 16], from: usize) -> bool
+    ensures { λ r. ⌜ r ≡ every (λ c. padded 8 from (c .kept)) calls ⌝ }
+{
+    let mut i = 0;
+    while i < 16 {
+        if keeps_clear(calls[i], from) {} else {
+            return false;
+        }
+        i += 1;
+    }
+    true
+}
+
+// Whether there is no call from a place on.
+pub fn calls_clear(calls: [Call; 16], from: usize) -> bool
+    ensures { λ r. ⌜ r ≡ every isZeroCall (drop from calls) ⌝ }
+{
+    let mut i = from;
+    while i < 16 {
+        if is_no_call(calls[i]) {} else {
+            return false;
+        }
+        i += 1;
+    }
+    true
+}
+
+// Whether the first `opened` calls have different numbers.
+pub fn numbers_distinct(calls: [Call; 16], opened: usize) -> bool
+    ensures { λ r. ⌜ r ≡ distinct (map (λ c. c .number) (take opened calls)) ⌝ }
+{
+    let mut i = 0;
+    while i < opened {
+        if i < 16 {
+            let c = calls[i];
+            if crate::call_place(calls, i, c.number) == i {} else {
+                return false;
+            }
+        } else {
+            return true;
+        }
+        i += 1;
+    }
+    true
+}
