@@ -1,7 +1,7 @@
 //! The case programs, and what their input and expected output hold. To add one, add a line to
 //! `PROGRAMS` and describe its frames in CASES.md.
 
-use crate::{condition_cases, sheet_cases};
+use crate::{condition_cases, monitor_cases, sheet_cases};
 
 pub struct Program {
     /// The directory under `crates/`.
@@ -9,6 +9,7 @@ pub struct Program {
     pub make: fn() -> Files,
 }
 
+#[derive(Default)]
 pub struct Files {
     pub stdin: Vec<u8>,
     pub stdout: Vec<u8>,
@@ -17,11 +18,26 @@ pub struct Files {
 pub const PROGRAMS: &[Program] = &[
     Program {
         name: "condition_cases",
-        make: condition_cases_files,
+        make: || {
+            let rows = condition_cases::all();
+            let frames = rows.iter().map(|row| &row.frame);
+            gather(frames, |f, out| f.write(out), |f| Some(f.answer()))
+        },
     },
     Program {
         name: "sheet_cases",
-        make: sheet_cases_files,
+        make: || {
+            let rows = sheet_cases::all();
+            let frames = rows.iter().map(|row| &row.frame);
+            gather(frames, |f, out| f.write(out), |f| Some(f.answer()))
+        },
+    },
+    Program {
+        name: "monitor_cases",
+        make: || {
+            let rows = monitor_cases::all();
+            gather(rows.iter(), |r, out| r.frame.write(out), |r| r.line.clone())
+        },
     },
 ];
 
@@ -31,28 +47,19 @@ pub fn files(name: &str) -> Option<Files> {
     Some((program.make)())
 }
 
-fn condition_cases_files() -> Files {
-    let (mut stdin, mut stdout) = (Vec::new(), String::new());
-    for row in condition_cases::all() {
-        row.frame.write(&mut stdin);
-        stdout.push_str(&row.frame.answer());
-        stdout.push('\n');
+/// Writes frames one after the other, and the lines of those that have one.
+fn gather<F>(
+    frames: impl Iterator<Item = F>,
+    write: fn(&F, &mut Vec<u8>),
+    line: fn(&F) -> Option<String>,
+) -> Files {
+    let mut files = Files::default();
+    for frame in frames {
+        write(&frame, &mut files.stdin);
+        if let Some(line) = line(&frame) {
+            files.stdout.extend(line.into_bytes());
+            files.stdout.push(b'\n');
+        }
     }
-    Files {
-        stdin,
-        stdout: stdout.into_bytes(),
-    }
-}
-
-fn sheet_cases_files() -> Files {
-    let (mut stdin, mut stdout) = (Vec::new(), String::new());
-    for row in sheet_cases::all() {
-        row.frame.write(&mut stdin);
-        stdout.push_str(&row.frame.answer());
-        stdout.push('\n');
-    }
-    Files {
-        stdin,
-        stdout: stdout.into_bytes(),
-    }
+    files
 }
