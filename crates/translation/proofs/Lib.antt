@@ -1,0 +1,2 @@
+-- What translating a sheet gives.
+pub mod Rows

@@ -1,0 +1,2 @@
+-- A sheet's network (document 01, "Network layout and translation").
+pub mod Translate
