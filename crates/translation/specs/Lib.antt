@@ -1,2 +1,4 @@
 -- A sheet's network (document 01, "Network layout and translation").
 pub mod Translate
+pub mod Answer
+pub mod Walk

@@ -1,9 +1,9 @@
 // A sheet's network, written into a lent buffer.
 
-ghost use mathlib.Core.Path.{_≡_};
+mod write;
 
-fn zero() -> u8
-    ensures { λ r. ⌜ r ≡ 0 ⌝ }
-{
-    0
+// What translating answers: how many bytes the network has, or the refusal.
+pub enum Translated {
+    Written(usize),
+    Refused(u8),
 }
