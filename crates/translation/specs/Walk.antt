@@ -12,7 +12,9 @@ use Rattle.sheet.specs.declared.Triple.{Triple}
 use Rattle.sheet.specs.declared.Pair.{Pair}
 use Rattle.sheet.specs.Parts.{Paired}
 use Rattle.sheet.specs.Table.{extent, table, after}
-use Rattle.sheet.specs.Decode.{wordForm, textForm, transitionForm, tripleForm}
+use Rattle.sheet.specs.Decode.{wordForm, textForm, transitionForm, tripleForm, conditionsIn, actionsIn, lastIn, transitionsAt, lastAt}
+use Rattle.sheet.specs.Reading.{reading, sheetLayout}
+use Rattle.sheet.specs.Answer.{headerOf}
 use Rattle.sheet.specs.Encode.{halfBytes, wordBytes, pairBytes, pairedBytes, templateBytes, written}
 use Rattle.translation.specs.declared.write.Frame.{Frame}
 use Rattle.translation.specs.declared.write.Spot.{Spot}
@@ -75,6 +77,16 @@ addedAt s f states units = joined states (λ q. joined units (λ u. backAt s f q
 abbrev pub templatesAt : List ℕ → Frame → List ℕ
 templatesAt s f = written templateBytes (map templateOf (triplesAt s f))
 
+abbrev pub frameOf : List ℕ → Frame
+frameOf s = record { triples = lastAt transitionForm s; count = lastIn s; condition = conditionsIn s; action = actionsIn s }
+
+-- An accepted sheet, with its header and where its parts stand.
+pub record Prepared (s : List ℕ) (h : Header) (f : Frame) (transitions : ℕ) : Type 0 where
+  pub accepted : reading sheetLayout s ≡ 0
+  pub header : h ≡ headerOf s
+  pub frame : f ≡ frameOf s
+  pub from : transitions ≡ transitionsAt s
+
 unfoldable pub tablesAt : List ℕ → Header → Frame → ℕ → List ℕ
 tablesAt s h f transitions =
     written wordBytes (table wordForm (h .monitors) s 14)
@@ -82,7 +94,11 @@ tablesAt s h f transitions =
     ++ (textsAt s (after textForm (h .conditions) s (after wordForm (h .monitors) s 14)) (h .actions) ++ 0 ∷ []
     ++ (copiedBytes s f transitions (h .transitions) ++ (written pairedBytes (addedAt s f (h .states) (h .units)) ++ templatesAt s f))))
 
+pub record WritesTables (s : List ℕ) (h : Header) (f : Frame) (transitions : ℕ) (o p : List ℕ) (at : ℕ) (r : Spot) : Type 0 where
+  pub writes : Writes o p at (tablesAt s h f transitions) (r .at)
+  pub added : r .added ≡ length (addedAt s f (h .states) (h .units))
+
 -- the header of the network
 abbrev pub headerAt : Header → ℕ → ℕ → List ℕ
 headerAt h size transitions =
-    halfBytes size ++ 2 ∷ h .states ∷ h .units ∷ h .programs ∷ h .monitors ∷ h .start ∷ (halfBytes (h .bad) ++ h .conditions + 1 ∷ h .actions + 1 ∷ transitions ∷ h .last ∷ [])
+    halfBytes size ++ 2 ∷ h .states ∷ h .units ∷ h .programs ∷ h .monitors ∷ h .start ∷ (halfBytes (h .bad) ++ (h .conditions + 1) ∷ (h .actions + 1) ∷ transitions ∷ h .last ∷ [])

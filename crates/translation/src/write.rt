@@ -8,7 +8,7 @@ ghost use Rattle.sheet.specs.Table.{table, after};
 ghost use Rattle.sheet.specs.Decode.{wordForm, textForm, transitionOf};
 ghost use Rattle.sheet.specs.Encode.{halfBytes, wordBytes, pairBytes, pairedBytes, written};
 ghost use Rattle.translation.specs.Translate.{pairsFrom, joined};
-ghost use Rattle.translation.specs.Walk.{Room, Writes, WritesAdded, textsAt, WritesTexts, triplesAt, countedPairs, baseBytes, copiedAt, backAt, copiedBytes, addedAt, templatesAt, tablesAt, headerAt};
+ghost use Rattle.translation.specs.Walk.{Room, Prepared, Writes, WritesTables, WritesAdded, textsAt, WritesTexts, triplesAt, countedPairs, baseBytes, copiedAt, backAt, copiedBytes, addedAt, templatesAt, headerAt};
 use sheet::Header;
 use sheet::Transition;
 
@@ -278,6 +278,42 @@ fn templates(s: &[u8], f: Frame, out: &mut [u8], at: usize) -> usize
         left -= 1;
     }
     here
+}
+
+// The tables of the network, behind its header.
+fn tables(s: &[u8], h: Header, f: Frame, from: u32, out: &mut [u8], at: usize) -> Spot
+    requires { ⌜ Prepared (now s) h f from × (at ≡ 14) ⌝ }
+    ensures { λ r. ⌜ WritesTables (now (s .entry)) h f from (now (out .entry)) (now (out .exit)) at r ⌝ }
+{
+    let first = words(s, 14, h.monitors, out, at);
+    let conditions = texts(s, 14 + 4 * wide(h.monitors), h.conditions, out, first);
+    let second = put_two(out, conditions.at, 1, 0);
+    let actions = texts(s, conditions.from, h.actions, out, second);
+    let third = put(out, actions.at, 0);
+    let fourth = transitions(s, f, from, h.transitions, out, third);
+    let spot = Spot {
+        at: fourth,
+        added: 0,
+    };
+    let last = states(s, f, h.states, h.units, out, spot);
+    Spot {
+        at: templates(s, f, out, last.at),
+        added: last.added,
+    }
+}
+
+// The header of the network: its size and how many transitions it has.
+fn header(out: &mut [u8], h: Header, size: u16, transitions: u8) -> usize
+    requires { ⌜ (h .conditions < 255) × (h .actions < 255) ⌝ }
+    ensures { λ r. ⌜ Writes (now (out .entry)) (now (out .exit)) 0 (headerAt h size transitions) r ⌝ }
+{
+    let second = put_half(out, 0, size);
+    let third = put_two(out, second, 2, h.states);
+    let fourth = put_two(out, third, h.units, h.programs);
+    let fifth = put_two(out, fourth, h.monitors, h.start);
+    let sixth = put_half(out, fifth, h.bad);
+    let last = put_two(out, sixth, h.conditions + 1, h.actions + 1);
+    put_two(out, last, transitions, h.last)
 }
 
 fn wide(x: u8) -> u32
