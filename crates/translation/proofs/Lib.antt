@@ -1,2 +1,3 @@
 -- What translating a sheet gives.
 pub mod Rows
+pub mod Counting
