@@ -1,7 +1,7 @@
 -- How many transitions and pairs translating gives: a triple has one state and one unit, so at most one added transition a triple. Assumes nothing.
 use mathlib.Core.Path.{_≡_, refl, ap, subst}
 use mathlib.Core.Bool.{Bool, true, false, cond, _&&_}
-use mathlib.Core.List.{List, [], _∷_, _++_}
+use mathlib.Core.List.{List, [], _∷_}
 use Prim.Native.Nat.{ℕ, zero, suc, _+_, _≤_, _<_}
 use native.Mathlib.Omega.{arith}
 use borrow.Author.Tests.{leb-true, le-leb, eqb-true, eqb-false, ne-eqb}
@@ -10,7 +10,7 @@ use lib.ListN.{length, getD, length-append}
 use Rattle.sheet.specs.declared.Triple.{Triple}
 use Rattle.sheet.specs.declared.Pair.{Pair}
 use Rattle.sheet.specs.Table.{every}
-use Rattle.sheet.specs.Parts.{Sheet, Paired}
+use Rattle.sheet.specs.Parts.{Sheet}
 use Rattle.sheet.specs.Reading.{together}
 use Rattle.sheet.proofs.Tables.{and-both, and-parts, every-append}
 use Rattle.sheet.proofs.Tests.{and-iff, eqb-iff}
@@ -98,14 +98,13 @@ pairs-hit i q u t l = go (eqb (t .state) q && eqb (t .unit) u)
     go true = omega arith
     go false = omega arith
 
--- all pairs that one triple or another gives
+-- so over all states and units there are at most as many pairs as triples
 pairs-total : (Q U i : ℕ) (l : List Triple) → total Q (λ q. total U (λ u. length (pairsFrom i q u l))) ≤ length l
 unfolding pairsFrom
 pairs-total Q U i [] = total-zero (λ q. total U (λ u. 0)) (λ q. total-zero (λ u. 0) (λ u. omega arith) U) Q
 pairs-total Q U i (t ∷ l) =
-    let all =
-        total-sum (λ q. total U (λ u. length (pairsFrom i q u (t ∷ l)))) (λ q. total U (hit t q)) (λ q. total U (λ u. length (pairsFrom (suc i) q u l)))
-        (λ q. total-sum (λ u. length (pairsFrom i q u (t ∷ l))) (hit t q) (λ u. length (pairsFrom (suc i) q u l)) (λ u. pairs-hit i q u t l) U) Q in
+    let all = total-sum (λ q. total U (λ u. length (pairsFrom i q u (t ∷ l)))) (λ q. total U (hit t q)) (λ q. total U (λ u. length (pairsFrom (suc i) q u l)))
+    (λ q. total-sum (λ u. length (pairsFrom i q u (t ∷ l))) (hit t q) (λ u. length (pairsFrom (suc i) q u l)) (λ u. pairs-hit i q u t l) U) Q in
     omega (arith, all, hits t Q U, pairs-total Q U (suc i) l)
 
 back-length : (S : Sheet) (q u : ℕ) (l : List Pair) → length (back S q u l) ≤ length l
@@ -118,9 +117,8 @@ unfolding added
 added-length S =
     let Q = S .common .states in
     let U = S .common .units in
-    let all =
-        joined-length (λ q. joined U (λ u. back S q u (pairsOf S q u))) (λ q. total U (λ u. length (pairsOf S q u)))
-        (λ q. joined-length (λ u. back S q u (pairsOf S q u)) (λ u. length (pairsOf S q u)) (λ u. back-length S q u (pairsOf S q u)) U) Q in
+    let all = joined-length (λ q. joined U (λ u. back S q u (pairsOf S q u))) (λ q. total U (λ u. length (pairsOf S q u)))
+    (λ q. joined-length (λ u. back S q u (pairsOf S q u)) (λ u. length (pairsOf S q u)) (λ u. back-length S q u (pairsOf S q u)) U) Q in
     omega (arith, all, pairs-total Q U 0 (S .triples))
 
 -- What all pairs pass: what those of the triples of that state and unit pass, by their numbers.
@@ -150,12 +148,15 @@ pairs-together t i (v ∷ l) = go (eqb (v .state) (t .state) && eqb (v .unit) (t
     go true h = ap suc h
     go false h = h
 
+-- a bound on its length that each element gives
 few-if-some : {A : Type 0} (n : ℕ) (l : List A) → every (λ x. leb (length l) n) l ≡ true → length l ≤ n
 unfolding every
 few-if-some n [] h = omega arith
 few-if-some n (x ∷ l) h = leb-true (length (x ∷ l)) n (and-parts _ _ h .0)
 
+-- at most n, where no state and unit has more triples
 pub pairs-few : (d : Triple) (n q u : ℕ) (l : List Triple) → ((m : ℕ) → m < length l → together (getD l m d) l ≤ n) → length (pairsFrom 0 q u l) ≤ n
-pairs-few d n q u l h =
-    few-if-some n (pairsFrom 0 q u l) (pairs-every (λ p. leb (length (pairsFrom 0 q u l)) n) d 0 q u l
-    (λ m k e f. le-leb (length (pairsFrom 0 q u l)) n (subst (λ r. length (pairsFrom 0 r u l) ≤ n) e (subst (λ v. length (pairsFrom 0 (getD l m d .state) v l) ≤ n) f (rw (pairs-together (getD l m d) 0 l) (h m k))))))
+pairs-few d n q u l h = few-if-some n (pairsFrom 0 q u l) (pairs-every (λ p. leb (length (pairsFrom 0 q u l)) n) d 0 q u l (λ m k e f.
+    let t = getD l m d in
+    let own : length (pairsFrom 0 (t .state) (t .unit) l) ≤ n = rw (pairs-together t 0 l) (h m k) in
+    le-leb (length (pairsFrom 0 q u l)) n (rw (← e, ← f) own)))

@@ -1,8 +1,8 @@
 -- The network of an accepted sheet is accepted, reads back as it is, and is never longer than 7,904 bytes. Assumes nothing.
-use mathlib.Core.Path.{_≡_, refl, sym}
+use mathlib.Core.Path.{_≡_, refl}
 use mathlib.Core.Bool.{Bool, true, false, not, cond, _&&_}
 use mathlib.Core.List.{List, [], _∷_, _++_, map}
-use Prim.Native.Nat.{ℕ, zero, suc, _+_, _≤_, _<_}
+use Prim.Native.Nat.{ℕ, zero, suc, _≤_, _<_}
 use native.Mathlib.Omega.{arith}
 use native.Mathlib.Nat.{zero-add}
 use borrow.Author.Tests.{eqb-true}
@@ -20,7 +20,7 @@ use Rattle.sheet.specs.Table.{every}
 use Rattle.sheet.specs.Parts.{Common, Sheet, Paired}
 use Rattle.sheet.specs.Decode.{transitionForm, tripleForm, sheetOf, networkOf}
 use Rattle.sheet.specs.Encode.{encode, withinCounts, admitted}
-use Rattle.sheet.specs.Reading.{guard, precondition, between, lentIn, formed, usedWell, roled, ranged, countsOf, transitionRanged, together, sheetLayout, noTemplate, pairRanged, templateRanged, networkLayout}
+use Rattle.sheet.specs.Reading.{precondition, between, lentIn, formed, usedWell, roled, ranged, countsOf, transitionRanged, together, sheetLayout, pairRanged, templateRanged, networkLayout}
 use Rattle.sheet.proofs.Tables.{and-parts, and-both, every-append, every-map, every-weaker}
 use Rattle.sheet.proofs.Tests.{and-iff, leb-iff, eqb-iff, not-iff}
 use Rattle.sheet.proofs.Accepted.{Accepted, Bounds, bounds, GoodTransition, GoodTriple, GoodTemplate, GoodPair, sheet-transition, sheet-triple, sheet-together}
@@ -126,16 +126,21 @@ module _ (C : Common) where
   unfolding every extended actionWhich parseAction runFrom actionNames
   extended-actions h = rw (every-append (λ a. not (actionWhich (λ r. actionNames r isAtEntry) (lentIn C) a)) (C .actions) ([] ∷ [])) (and-both h refl)
 
--- What is asked of a network's transition, of each of its pairs and of a template: "n, 0-4" of 4, 6 and 7.
+-- What 6 and 7 ask of a template; what they and "n, 0-4" of 4 ask of a network's transition and of its pairs.
+module _ (C : Common) where
+  abbrev templateAsked : Template → Bool
+  templateAsked t = networkLayout .lastRanged C t && every (usedWell C) (networkLayout .lastUses t)
+
+  template-asked : {t : Template} → GoodTemplate C t → templateAsked t ≡ true
+  unfolding templateRanged every
+  template-asked g = simp (and-iff, leb-iff, not-iff) ((g .unit, g .postcondition), (g .noMonitorAfter, refl))
+
 module _ (C : Common) (rs : List Template) where
   abbrev pairAsked : Transition → Pair → Bool
   pairAsked t p = pairRanged (countsOf C) rs t p && usedWell C (record { number = p .condition; role = precondition })
 
   abbrev asked : Paired → Bool
   asked t = between 0 4 (length (t .pairs)) && (networkLayout .transitionRanged C rs t && every (usedWell C) (networkLayout .transitionUses t))
-
-  abbrev templateAsked : Template → Bool
-  templateAsked t = networkLayout .lastRanged C t && every (usedWell C) (networkLayout .lastUses t)
 
   pair-asked : {t : Transition} {p : Pair} → GoodPair C rs t p → pairAsked t p ≡ true
   unfolding pairRanged
@@ -148,10 +153,6 @@ module _ (C : Common) (rs : List Template) where
       rw (r, every-map (usedWell C) (λ p. record { number = p .condition; role = precondition }) l, u)
       (simp (and-iff, leb-iff, not-iff) ((omega arith, h), (((g .from, (g .kind, (g .unit, (g .condition, (g .action, g .to))))), refl), (g .noEntry, refl))))
 
-  template-asked : {t : Template} → GoodTemplate C t → templateAsked t ≡ true
-  unfolding templateRanged every
-  template-asked g = simp (and-iff, leb-iff, not-iff) ((g .unit, g .postcondition), (g .noMonitorAfter, refl))
-
 -- The network of a good sheet.
 module _ (S : Sheet) (g : GoodSheet S) where
   abbrev C : Common
@@ -163,15 +164,15 @@ module _ (S : Sheet) (g : GoodSheet S) where
   -- a transition that gets the pairs of its state and unit
   pairs-asked : (t : Transition) → t .kind ≡ 0 → every (pairAsked C rs t) (pairsOf S (t .from) (t .unit)) ≡ true
   pairs-asked t k = pairs-every (pairAsked C rs t) noTriple 0 (t .from) (t .unit) (S .triples) (λ m h e f.
-    let v = extended-triple (S .common) (g .triple m h) in
-    pair-asked C rs (record {
-      entry = k;
-      condition = v .precondition;
-      template = omega (arith, h, length-map (S .triples) templateOf);
-      unit = rw (zero-add m, List·getD-map templateOf (S .triples) m noTriple) f;
-      noEntry = v .noEntry;
-      noMonitor = v .noMonitor;
-    }))
+      let v = extended-triple (S .common) (g .triple m h) in
+      pair-asked C rs (record {
+        entry = k;
+        condition = v .precondition;
+        template = omega (arith, h, length-map (S .triples) templateOf);
+        unit = rw (zero-add m, List·getD-map templateOf (S .triples) m noTriple) f;
+        noEntry = v .noEntry;
+        noMonitor = v .noMonitor;
+      }))
 
   paired-asked : (t : Transition) → GoodTransition C t → t .kind ≡ 0 → asked C rs (record { base = t; pairs = pairsOf S (t .from) (t .unit) }) ≡ true
   paired-asked t v k = transition-asked C rs t (pairsOf S (t .from) (t .unit)) v (pairs-few noTriple 4 (t .from) (t .unit) (S .triples) (g .few)) (pairs-asked t k)
@@ -202,10 +203,10 @@ module _ (S : Sheet) (g : GoodSheet S) where
       rw (every-append (asked C rs) (map (copied S) (S .transitions)) (added S), every-map (asked C rs) (copied S) (S .transitions))
       (and-both (every-by noTransition (λ t. asked C rs (copied S t)) (S .transitions) (λ i h. copied-asked (getD (S .transitions) i noTransition) (extended-transition (S .common) (g .transition i h)))) added-asked)
 
-  templates-asked : every (templateAsked C rs) rs ≡ true
-  templates-asked = rw (every-map (templateAsked C rs) templateOf (S .triples)) (every-by noTriple (λ t. templateAsked C rs (templateOf t)) (S .triples) (λ i h.
-    let v = extended-triple (S .common) (g .triple i h) in
-    template-asked C rs (record { unit = v .unit; postcondition = v .postcondition; noMonitorAfter = v .noMonitorAfter })))
+  templates-asked : every (templateAsked C) rs ≡ true
+  templates-asked = rw (every-map (templateAsked C) templateOf (S .triples)) (every-by noTriple (λ t. templateAsked C (templateOf t)) (S .triples) (λ i h.
+      let v = extended-triple (S .common) (g .triple i h) in
+      template-asked C (record { unit = v .unit; postcondition = v .postcondition; noMonitorAfter = v .noMonitorAfter })))
 
   -- "up to 65 conditions, 33 actions, 96 transitions"
   translate-counts : withinCounts (translate S) ≡ true
@@ -214,8 +215,8 @@ module _ (S : Sheet) (g : GoodSheet S) where
       let b = g .bounds in
       let c : length (S .common .conditions ++ (0 ∷ []) ∷ []) ≤ 65 = omega (arith, b .conditions, length-added (0 ∷ []) (S .common .conditions)) in
       let a : length (S .common .actions ++ [] ∷ []) ≤ 33 = omega (arith, b .actions, length-added [] (S .common .actions)) in
-      let n : length (map (copied S) (S .transitions) ++ added S) ≤ 96 =
-          omega (arith, b .transitions, b .last, added-length S, length-append (map (copied S) (S .transitions)) (added S), length-map (S .transitions) (copied S)) in
+      let m = length-append (map (copied S) (S .transitions)) (added S) in
+      let n : length (map (copied S) (S .transitions) ++ added S) ≤ 96 = omega (arith, b .transitions, b .last, added-length S, m, length-map (S .transitions) (copied S)) in
       let l : length rs ≤ 32 = omega (arith, b .last, length-map (S .triples) templateOf) in
       simp (and-iff, leb-iff, eqb-iff, not-iff)
       ((b .someState, b .states), ((b .someUnit, b .units), (b .programs, (b .monitors, (c, (a, (n, (l, (b .start, (b .bad, (b .startGood, b .initial)))))))))))
