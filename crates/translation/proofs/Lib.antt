@@ -1,4 +1,5 @@
 -- What translating a sheet gives.
 pub mod Rows
+pub mod Writing
 pub mod Counting
-pub mod Translated
+pub mod Networks

@@ -1,5 +1,5 @@
 -- Translating a sheet to its network (document 01, "Network layout and translation"; source document 003, algorithm 2).
-use mathlib.Core.Bool.{Bool, cond, _&&_}
+use mathlib.Core.Bool.{cond, _&&_}
 use mathlib.Core.List.{List, [], _∷_, _++_, map}
 use Prim.Native.Nat.{ℕ, zero, suc}
 use lib.Dec.{eqb}
