@@ -3,3 +3,4 @@ pub mod Rows
 pub mod Writing
 pub mod Counting
 pub mod Networks
+pub mod Images

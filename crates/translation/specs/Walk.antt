@@ -89,10 +89,14 @@ pub record Prepared (s : List ℕ) (h : Header) (f : Frame) (transitions : ℕ) 
 
 unfoldable pub tablesAt : List ℕ → Header → Frame → ℕ → List ℕ
 tablesAt s h f transitions =
+    let conditions = after wordForm (h .monitors) s 14 in
+    let actions = after textForm (h .conditions) s conditions in
     written wordBytes (table wordForm (h .monitors) s 14)
-    ++ (textsAt s (after wordForm (h .monitors) s 14) (h .conditions) ++ 1 ∷ 0 ∷ []
-    ++ (textsAt s (after textForm (h .conditions) s (after wordForm (h .monitors) s 14)) (h .actions) ++ 0 ∷ []
-    ++ (copiedBytes s f transitions (h .transitions) ++ (written pairedBytes (addedAt s f (h .states) (h .units)) ++ templatesAt s f))))
+    ++ (textsAt s conditions (h .conditions)
+    ++ 1 ∷ 0 ∷ (textsAt s actions (h .actions)
+    ++ 0 ∷ (copiedBytes s f transitions (h .transitions)
+    ++ (written pairedBytes (addedAt s f (h .states) (h .units))
+    ++ templatesAt s f))))
 
 pub record WritesTables (s : List ℕ) (h : Header) (f : Frame) (transitions : ℕ) (o p : List ℕ) (at : ℕ) (r : Spot) : Type 0 where
   pub writes : Writes o p at (tablesAt s h f transitions) (r .at)
