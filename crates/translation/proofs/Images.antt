@@ -84,9 +84,9 @@ module _ {s : List ℕ} (a : Accepted sheetLayout s) where
       let e = written pairedBytes (addedAt s (frameOf s) (byte s 3) (byte s 4)) in
       let f = templatesAt s (frameOf s) in
       let conditions : written textBytes (table textForm (conditionsIn s) s (conditionsAt s) ++ (0 ∷ []) ∷ []) ≡ b ++ 1 ∷ 0 ∷ [] =
-          written-append textBytes (table textForm (conditionsIn s) s (conditionsAt s)) ((0 ∷ []) ∷ []) ∙ ap (λ (l : List ℕ). l ++ 1 ∷ 0 ∷ []) (texts-there (conditionsIn s) (conditionsAt s) conditions-within) in
+      written-append textBytes (table textForm (conditionsIn s) s (conditionsAt s)) ((0 ∷ []) ∷ []) ∙ ap (λ (l : List ℕ). l ++ 1 ∷ 0 ∷ []) (texts-there (conditionsIn s) (conditionsAt s) conditions-within) in
       let actions : written textBytes (table textForm (actionsIn s) s (actionsAt s) ++ [] ∷ []) ≡ c ++ 0 ∷ [] =
-          written-append textBytes (table textForm (actionsIn s) s (actionsAt s)) ([] ∷ []) ∙ ap (λ (l : List ℕ). l ++ 0 ∷ []) (texts-there (actionsIn s) (actionsAt s) actions-within) in
+      written-append textBytes (table textForm (actionsIn s) s (actionsAt s)) ([] ∷ []) ∙ ap (λ (l : List ℕ). l ++ 0 ∷ []) (texts-there (actionsIn s) (actionsAt s) actions-within) in
       let transitions : written pairedBytes (ts ++ added S) ≡ d ++ e = written-append pairedBytes ts (added S) ∙ ap (λ (l : List Paired). written pairedBytes ts ++ written pairedBytes l) (sym (added-same s)) in
       let row : tableBytes (translate S) ≡ w ++ ((b ++ 1 ∷ 0 ∷ []) ++ ((c ++ 0 ∷ []) ++ ((d ++ e) ++ f))) = λ i. w ++ (conditions i ++ (actions i ++ (transitions i ++ f))) in
       sym (row ∙ in-a-row w b c d e f)
@@ -100,6 +100,6 @@ module _ {s : List ℕ} (a : Accepted sheetLayout s) where
       let conditions : byte s 10 + 1 ≡ length (C .conditions ++ (0 ∷ []) ∷ []) = sym (length-append (C .conditions) ((0 ∷ []) ∷ []) ∙ ap (λ (n : ℕ). n + 1) (length-records textForm (conditionsIn s) (drop (conditionsAt s) s))) in
       let actions : byte s 11 + 1 ≡ length (C .actions ++ [] ∷ []) = sym (length-append (C .actions) ([] ∷ []) ∙ ap (λ (n : ℕ). n + 1) (length-records textForm (actionsIn s) (drop (actionsAt s) s))) in
       let transitions : byte s 12 + length (added S) ≡ length (map (copied S) ts ++ added S) =
-          sym (length-append (map (copied S) ts) (added S) ∙ ap (λ (n : ℕ). n + length (added S)) (length-map ts (copied S) ∙ length-records transitionForm (transitionsIn s) (drop (transitionsAt s) s))) in
+      sym (length-append (map (copied S) ts) (added S) ∙ ap (λ (n : ℕ). n + length (added S)) (length-map ts (copied S) ∙ length-records transitionForm (transitionsIn s) (drop (transitionsAt s) s))) in
       let templates : byte s 13 ≡ length (map templateOf (S .triples)) = sym (length-map (S .triples) templateOf ∙ length-records tripleForm (lastIn s) (drop (lastAt transitionForm s) s)) in
       λ i. halfBytes size ++ 2 ∷ byte s 3 ∷ byte s 4 ∷ byte s 5 ∷ byte s 6 ∷ byte s 7 ∷ (halfBytes (half s 8) ++ conditions i ∷ actions i ∷ transitions i ∷ templates i ∷ [])

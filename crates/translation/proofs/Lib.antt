@@ -4,3 +4,4 @@ pub mod Writing
 pub mod Counting
 pub mod Networks
 pub mod Images
+pub mod Filling

@@ -1,0 +1,69 @@
+-- From the tables and the header to the network in its buffer. Assumes nothing.
+use mathlib.Core.Path.{_≡_, refl, sym, ap, _∙_}
+use mathlib.Core.Bool.{Bool, true, false, false≢true}
+use mathlib.Core.List.{List, [], _∷_, _++_}
+use Prim.Native.Nat.{ℕ, zero, suc, _+_, _≤_, _<_}
+use native.Mathlib.Omega.{arith}
+use borrow.Author.Tests.{le-leb, lt-leb}
+use lib.ListN.{length, drop, length-append}
+use lib.Seq.{sets, sets-eq}
+use Rattle.sheet.specs.declared.Header.{Header}
+use Rattle.sheet.specs.declared.Places.{Places}
+use Rattle.sheet.specs.declared.Reading.{Reading}
+use Rattle.sheet.specs.declared.Reading.the-variants as reading
+use Rattle.sheet.specs.Decode.{transitionsIn, transitionsAt, commonOf, sheetOf}
+use Rattle.sheet.specs.Encode.{tableBytes, headerBytes, encode}
+use Rattle.sheet.specs.Reading.{reading, sheetLayout}
+use Rattle.sheet.specs.Answer.{answer, headerOf, placesOf}
+use Rattle.sheet.proofs.Accepted.{Accepted, accepted, bounds}
+use Rattle.translation.specs.declared.Translated.{Translated}
+use Rattle.translation.specs.declared.Translated.the-variants.{Written, Refused}
+use Rattle.translation.specs.declared.write.Frame.{Frame}
+use Rattle.translation.specs.declared.write.Spot.{Spot}
+use Rattle.translation.specs.Translate.{added, translate}
+use Rattle.translation.specs.Answer.{networkBytes, translateRefusal, translatedOf, bufferOf}
+use Rattle.translation.specs.Walk.{Prepared, Measures, Writes, WritesTables, addedAt, frameOf, tablesAt, headerAt}
+use Rattle.translation.proofs.Counting.{added-length}
+use Rattle.translation.proofs.Networks.{translate-longest}
+use Rattle.translation.proofs.Images.{added-same, tables-same, header-same}
+use Rattle.translation.proofs.Writing.{writes-then}
+
+abbrev frameWith : Header → ℕ → Frame
+frameWith h last = record { triples = last; count = h .last; condition = h .conditions; action = h .actions }
+
+-- what reading a sheet leaves behind
+pub prepared-with : (s : List ℕ) → reading sheetLayout s ≡ 0 → (h : Header) → h ≡ headerOf s → (q : Places) → q ≡ placesOf sheetLayout s → Prepared s h (frameWith h (q .last)) (q .transitions)
+prepared-with s a h eh q eq = record { accepted = a; header = eh; frame = rw (eh, eq); from = rw eq }
+
+module _ {s : List ℕ} {h : Header} {f : Frame} {from : ℕ} (p : Prepared s h f from) where
+  there : Accepted sheetLayout s
+  there = accepted sheetLayout s (p .accepted)
+
+  tables-are : tablesAt s h f from ≡ tableBytes (translate (sheetOf s))
+  tables-are = rw (p .header, p .frame, p .from) (tables-same there)
+
+  -- header and tables are the network
+  pub tables-length : 14 + length (tablesAt s h f from) ≡ length (networkBytes s)
+  unfolding networkBytes encode
+  tables-length = rw tables-are (sym (length-append (headerBytes (translate (sheetOf s)) (14 + length (tableBytes (translate (sheetOf s))))) (tableBytes (translate (sheetOf s)))))
+
+  pub network-small : length (networkBytes s) ≤ 7904
+  unfolding networkBytes
+  network-small = translate-longest there
+
+  pub few-texts : (h .conditions < 255) × (h .actions < 255)
+  few-texts = ?
+
+  pub few-transitions : (n : ℕ) → n ≡ h .transitions → (r : Spot) → Measures s r → n + r .added < 256
+  few-transitions n e r m = ?
+
+  pub measured : (o q : List ℕ) (at : ℕ) → at ≡ 14 → (r : Spot) → WritesTables s h f from o q at r → Measures s r
+  measured o q at e r w =
+      record {
+        size = omega (arith, w .writes .next, tables-length);
+        added = w .added ∙ rw (p .header, p .frame) (ap length (added-same s));
+      }
+
+  pub filled : (r : Spot) → Measures s r → (n : ℕ) → n ≡ h .transitions → (o : List ℕ) → length (networkBytes s) ≤ length o → (q : List ℕ) (at : ℕ) → Writes o q 0 (headerAt h (r .at) (n + r .added)) at
+      → (x : List ℕ) (z : Spot) → WritesTables s h f from q x at z → x ≡ networkBytes s ++ drop (length (networkBytes s)) o
+  filled r m n en o room q at v x z w = ?
