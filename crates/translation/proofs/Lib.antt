@@ -1,5 +1,6 @@
 -- What translating a sheet gives.
 pub mod Rows
 pub mod Writing
+pub mod Copying
 pub mod Counting
 pub mod Networks
