@@ -116,29 +116,29 @@ module _ (s : List ℕ) (from n : ℕ) (o : List ℕ) (at : ℕ) where
           read = sym (after-none textForm s place) ∙ rw e at (g .there);
         }
 
-    -- the next text, of `size` bytes
-    module _ (h : 0 < left) (size : ℕ) (e : size ≡ 1 + byte s place) where
+    -- the next text: its length byte is b, read as w
+    module _ (h : 0 < left) (b w : ℕ) (e : b ≡ byte s place) (f : w ≡ b) where
       more : left ≡ suc (left - 1)
       more = omega arith
 
-      sized : size ≡ textForm .size (drop place s)
-      sized = e ∙ ap (λ (b : ℕ). 1 + b) (byte-here s place)
+      sized : 1 + w ≡ textForm .size (drop place s)
+      sized = ap (λ (x : ℕ). 1 + x) (f ∙ e ∙ byte-here s place)
 
-      text-there : after textForm (left - 1) s (place + size) ≡ after textForm n s from
+      text-there : after textForm (left - 1) s (place + (1 + w)) ≡ after textForm n s from
       text-there = rw sized (sym (after-step textForm (left - 1) s place) ∙ rw more at (g .there))
 
-      pub text-within : after textForm n s from ≤ length s → place + size ≤ length s
+      pub text-within : after textForm n s from ≤ length s → place + (1 + w) ≤ length s
       text-within k = omega (arith, text-there)
 
-      module _ (a b : ℕ) (ea : a ≡ place) (eb : b ≡ size) where
+      module _ (a k : ℕ) (ea : a ≡ place) (ek : k ≡ 1 + w) where
         abbrev text-rest : List ℕ
-        text-rest = textsAt s (place + size) (left - 1)
+        text-rest = textsAt s (place + (1 + w)) (left - 1)
 
-        text-parts : Writing o at (textsAt s from n) out here (take b (drop a s) ++ text-rest)
-        text-parts = rw (ea, eb, sized, ← texts-step s place (left - 1), ← more) (g .writing)
+        text-parts : Writing o at (textsAt s from n) out here (take k (drop a s) ++ text-rest)
+        text-parts = rw (ea, ek, sized, ← texts-step s place (left - 1), ← more) (g .writing)
 
-        pub texts-room : Room at (textsAt s from n) → Room here (take b (drop a s))
-        texts-room = writing-room o at (textsAt s from n) out here (take b (drop a s)) text-rest text-parts
+        pub texts-room : Room at (textsAt s from n) → Room here (take k (drop a s))
+        texts-room = writing-room o at (textsAt s from n) out here (take k (drop a s)) text-rest text-parts
 
-        pub texts-next : (p : List ℕ) (r : ℕ) → Writes out p here (take b (drop a s)) r → WritingTexts s from n o at p (left - 1) (place + size) r
-        texts-next p r w = record { writing = writing-next o at (textsAt s from n) out here (take b (drop a s)) text-rest text-parts p r w; there = text-there }
+        pub texts-next : (p : List ℕ) (r : ℕ) → Writes out p here (take k (drop a s)) r → WritingTexts s from n o at p (left - 1) (place + (1 + w)) r
+        texts-next p r v = record { writing = writing-next o at (textsAt s from n) out here (take k (drop a s)) text-rest text-parts p r v; there = text-there }
