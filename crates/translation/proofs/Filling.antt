@@ -1,5 +1,5 @@
 -- From the tables and the header to the network in its buffer. Assumes nothing.
-use mathlib.Core.Path.{_≡_, refl, sym, ap, _∙_}
+use mathlib.Core.Path.{_≡_, refl, sym, ap, ap₂, _∙_}
 use mathlib.Core.Bool.{Bool, true, false, false≢true}
 use mathlib.Core.List.{List, [], _∷_, _++_}
 use Prim.Native.Nat.{ℕ, zero, suc, _+_, _≤_, _<_}
@@ -11,11 +11,12 @@ use Rattle.sheet.specs.declared.Header.{Header}
 use Rattle.sheet.specs.declared.Places.{Places}
 use Rattle.sheet.specs.declared.Reading.{Reading}
 use Rattle.sheet.specs.declared.Reading.the-variants as reading
-use Rattle.sheet.specs.Decode.{transitionsIn, transitionsAt, commonOf, sheetOf}
+use Rattle.sheet.specs.Decode.{textForm, transitionForm, conditionsIn, actionsIn, transitionsIn, conditionsAt, actionsAt, transitionsAt, commonOf, sheetOf}
 use Rattle.sheet.specs.Encode.{tableBytes, headerBytes, encode}
 use Rattle.sheet.specs.Reading.{reading, sheetLayout}
 use Rattle.sheet.specs.Answer.{answer, headerOf, placesOf}
 use Rattle.sheet.proofs.Accepted.{Accepted, accepted, bounds}
+use Rattle.sheet.proofs.Tables.{length-records}
 use Rattle.translation.specs.declared.Translated.{Translated}
 use Rattle.translation.specs.declared.Translated.the-variants.{Written, Refused}
 use Rattle.translation.specs.declared.write.Frame.{Frame}
@@ -52,10 +53,20 @@ module _ {s : List ℕ} {h : Header} {f : Frame} {from : ℕ} (p : Prepared s h 
   network-small = translate-longest there
 
   pub few-texts : (h .conditions < 255) × (h .actions < 255)
-  few-texts = ?
+  unfolding commonOf
+  few-texts =
+      let b = bounds there in
+      let c = length-records textForm (conditionsIn s) (drop (conditionsAt s) s) in
+      let d = length-records textForm (actionsIn s) (drop (actionsAt s) s) in
+      rw (p .header) (omega (arith, b .conditions), omega (arith, b .actions))
 
   pub few-transitions : (n : ℕ) → n ≡ h .transitions → (r : Spot) → Measures s r → n + r .added < 256
-  few-transitions n e r m = ?
+  unfolding sheetOf
+  few-transitions n e r m =
+      let b = bounds there in
+      let c = length-records transitionForm (transitionsIn s) (drop (transitionsAt s) s) in
+      let d : n ≡ transitionsIn s = e ∙ ap (λ (x : Header). x .transitions) (p .header) in
+      omega (arith, b .transitions, b .last, m .added, added-length (sheetOf s))
 
   pub measured : (o q : List ℕ) (at : ℕ) → at ≡ 14 → (r : Spot) → WritesTables s h f from o q at r → Measures s r
   measured o q at e r w =
@@ -66,4 +77,12 @@ module _ {s : List ℕ} {h : Header} {f : Frame} {from : ℕ} (p : Prepared s h 
 
   pub filled : (r : Spot) → Measures s r → (n : ℕ) → n ≡ h .transitions → (o : List ℕ) → length (networkBytes s) ≤ length o → (q : List ℕ) (at : ℕ) → Writes o q 0 (headerAt h (r .at) (n + r .added)) at
       → (x : List ℕ) (z : Spot) → WritesTables s h f from q x at z → x ≡ networkBytes s ++ drop (length (networkBytes s)) o
-  filled r m n en o room q at v x z w = ?
+  unfolding networkBytes encode
+  filled r m n en o room q at v x z w =
+      let N = translate (sheetOf s) in
+      let size : r .at ≡ 14 + length (tableBytes N) = m .size ∙ sym tables-length ∙ ap (λ (l : List ℕ). 14 + length l) tables-are in
+      let count : n ≡ transitionsIn s = en ∙ ap (λ (y : Header). y .transitions) (p .header) in
+      let head : headerAt h (r .at) (n + r .added) ≡ headerBytes N (14 + length (tableBytes N)) = rw (size, count, m .added, p .header) (header-same there (14 + length (tableBytes N))) in
+      let both = writes-then (headerAt h (r .at) (n + r .added)) (tablesAt s h f from) v (w .writes) in
+      let net : headerAt h (r .at) (n + r .added) ++ tablesAt s h f from ≡ encode N = ap₂ (λ (a b : List ℕ). a ++ b) head tables-are in
+      both .all ∙ ap (sets o 0) net ∙ sets-eq (encode N) o 0 (omega arith) ∙ ap (λ (k : ℕ). encode N ++ drop k o) (omega arith)
