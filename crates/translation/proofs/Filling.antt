@@ -85,4 +85,44 @@ module _ {s : List ℕ} {h : Header} {f : Frame} {from : ℕ} (p : Prepared s h 
       let head : headerAt h (r .at) (n + r .added) ≡ headerBytes N (14 + length (tableBytes N)) = rw (size, count, m .added, p .header) (header-same there (14 + length (tableBytes N))) in
       let both = writes-then (headerAt h (r .at) (n + r .added)) (tablesAt s h f from) v (w .writes) in
       let net : headerAt h (r .at) (n + r .added) ++ tablesAt s h f from ≡ encode N = ap₂ (λ (a b : List ℕ). a ++ b) head tables-are in
-      both .all ∙ ap (sets o 0) net ∙ sets-eq (encode N) o 0 (omega arith) ∙ ap (λ (k : ℕ). encode N ++ drop k o) (omega arith)
+      let none : 0 + length (encode N) ≡ length (encode N) = omega arith in
+      both .all ∙ ap (sets o 0) net ∙ sets-eq (encode N) o 0 (omega arith) ∙ ap (λ (k : ℕ). encode N ++ drop k o) none
+
+-- What translating answers, and the buffer.
+abbrev isRefused : Reading → Bool
+isRefused reading.Accepted = false
+isRefused (reading.Refused n) = true
+
+abbrev asTranslated : Reading → Translated
+asTranslated reading.Accepted = Written 0
+asTranslated (reading.Refused n) = Refused n
+
+module _ (s o : List ℕ) where
+  module _ (a : reading sheetLayout s ≡ 0) (n : ℕ) (e : n ≡ length (networkBytes s)) where
+    pub too-short : length o < n → (Refused 19 ≡ translatedOf s o) × (o ≡ bufferOf s o)
+    unfolding translatedOf bufferOf translateRefusal
+    too-short h =
+        let t = lt-leb (length (networkBytes s)) (length o) (omega arith) in
+        rw (a, t) (refl, refl)
+
+    pub long-enough : n ≤ length o → (x : List ℕ) → x ≡ networkBytes s ++ drop (length (networkBytes s)) o → (Written n ≡ translatedOf s o) × (x ≡ bufferOf s o)
+    unfolding translatedOf bufferOf translateRefusal
+    long-enough h x f =
+        let t = le-leb (length (networkBytes s)) (length o) (omega arith) in
+        rw (a, t, e) (refl, f)
+
+  module _ (r : Reading) (er : r ≡ answer (reading sheetLayout s)) where
+    pub read-accepted : r ≡ reading.Accepted → reading sheetLayout s ≡ 0
+    read-accepted h = go (reading sheetLayout s) (sym er ∙ h)
+      where
+        go : (m : ℕ) → answer m ≡ reading.Accepted → m ≡ 0
+        go zero e = refl
+        go (suc m) e = absurd (false≢true (sym (ap isRefused e)))
+
+    pub unread : (n : ℕ) → r ≡ reading.Refused n → (Refused n ≡ translatedOf s o) × (o ≡ bufferOf s o)
+    unfolding translatedOf bufferOf translateRefusal
+    unread n h = go (reading sheetLayout s) refl (sym er ∙ h)
+      where
+        go : (m : ℕ) → reading sheetLayout s ≡ m → answer m ≡ reading.Refused n → (Refused n ≡ translatedOf s o) × (o ≡ bufferOf s o)
+        go zero f e = absurd (false≢true (ap isRefused e))
+        go (suc m) f e = rw f (ap asTranslated (sym e), refl)
