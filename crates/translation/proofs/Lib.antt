@@ -6,3 +6,4 @@ pub mod Counting
 pub mod Networks
 pub mod Images
 pub mod Filling
+pub mod Tabling

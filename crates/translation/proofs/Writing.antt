@@ -54,3 +54,7 @@ module _ (o : List ℕ) (at : ℕ) (whole : List ℕ) where
     -- nothing is left
     pub writing-end : Writing o at whole out here [] → Writes o out at whole here
     writing-end g = record { all = g .all; next = omega (arith, g .place) }
+
+    -- the last part is written
+    pub writing-last : (l : List ℕ) → Writing o at whole out here l → (p : List ℕ) (r : ℕ) → Writes out p here l r → Writes o p at whole r
+    writing-last l g p r w = record { all = rw (w .all) (g .all); next = omega (arith, w .next, g .place) }
