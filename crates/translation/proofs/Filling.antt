@@ -1,8 +1,7 @@
 -- From the tables and the header to the network in its buffer. Assumes nothing.
 use mathlib.Core.Path.{_≡_, refl, sym, ap, ap₂, _∙_}
-use mathlib.Core.Bool.{Bool, true, false, false≢true}
-use mathlib.Core.List.{List, [], _∷_, _++_}
-use Prim.Native.Nat.{ℕ, zero, suc, _+_, _≤_, _<_}
+use mathlib.Core.List.{List, _++_}
+use Prim.Native.Nat.{ℕ, _+_, _≤_, _<_}
 use native.Mathlib.Omega.{arith}
 use borrow.Author.Tests.{le-leb, lt-leb}
 use lib.ListN.{length, drop, length-append}
@@ -16,6 +15,7 @@ use Rattle.sheet.specs.Encode.{tableBytes, headerBytes, encode}
 use Rattle.sheet.specs.Reading.{reading, sheetLayout}
 use Rattle.sheet.specs.Answer.{answer, headerOf, placesOf}
 use Rattle.sheet.proofs.Accepted.{Accepted, accepted, bounds}
+use Rattle.sheet.proofs.Answers.{answer-refused}
 use Rattle.sheet.proofs.Tables.{length-records}
 use Rattle.translation.specs.declared.Translated.{Translated}
 use Rattle.translation.specs.declared.Translated.the-variants.{Written, Refused}
@@ -23,7 +23,7 @@ use Rattle.translation.specs.declared.write.Frame.{Frame}
 use Rattle.translation.specs.declared.write.Spot.{Spot}
 use Rattle.translation.specs.Translate.{added, translate}
 use Rattle.translation.specs.Answer.{networkBytes, translateRefusal, translatedOf, bufferOf}
-use Rattle.translation.specs.Walk.{Prepared, Measures, Writes, WritesTables, addedAt, frameOf, tablesAt, headerAt}
+use Rattle.translation.specs.Walk.{Prepared, Measures, Writes, WritesTables, tablesAt, headerAt}
 use Rattle.translation.proofs.Counting.{added-length}
 use Rattle.translation.proofs.Networks.{translate-longest}
 use Rattle.translation.proofs.Images.{added-same, tables-same, header-same}
@@ -89,10 +89,6 @@ module _ {s : List ℕ} {h : Header} {f : Frame} {from : ℕ} (p : Prepared s h 
       both .all ∙ ap (sets o 0) net ∙ sets-eq (encode N) o 0 (omega arith) ∙ ap (λ (k : ℕ). encode N ++ drop k o) none
 
 -- What translating answers, and the buffer.
-abbrev isRefused : Reading → Bool
-isRefused reading.Accepted = false
-isRefused (reading.Refused n) = true
-
 abbrev asTranslated : Reading → Translated
 asTranslated reading.Accepted = Written 0
 asTranslated (reading.Refused n) = Refused n
@@ -111,18 +107,8 @@ module _ (s o : List ℕ) where
         let t = le-leb (length (networkBytes s)) (length o) (omega arith) in
         rw (a, t, e) (refl, f)
 
-  module _ (r : Reading) (er : r ≡ answer (reading sheetLayout s)) where
-    pub read-accepted : r ≡ reading.Accepted → reading sheetLayout s ≡ 0
-    read-accepted h = go (reading sheetLayout s) (sym er ∙ h)
-      where
-        go : (m : ℕ) → answer m ≡ reading.Accepted → m ≡ 0
-        go zero e = refl
-        go (suc m) e = absurd (false≢true (sym (ap isRefused e)))
-
-    pub unread : (n : ℕ) → r ≡ reading.Refused n → (Refused n ≡ translatedOf s o) × (o ≡ bufferOf s o)
-    unfolding translatedOf bufferOf translateRefusal
-    unread n h = go (reading sheetLayout s) refl (sym er ∙ h)
-      where
-        go : (m : ℕ) → reading sheetLayout s ≡ m → answer m ≡ reading.Refused n → (Refused n ≡ translatedOf s o) × (o ≡ bufferOf s o)
-        go zero f e = absurd (false≢true (ap isRefused e))
-        go (suc m) f e = rw f (ap asTranslated (sym e), refl)
+  pub unread : (r : Reading) → r ≡ answer (reading sheetLayout s) → (n : ℕ) → r ≡ reading.Refused n → (Refused n ≡ translatedOf s o) × (o ≡ bufferOf s o)
+  unfolding translatedOf bufferOf translateRefusal
+  unread r er n h =
+      let (k, f, e) = answer-refused (reading sheetLayout s) r er n h in
+      rw f (ap asTranslated e, refl)

@@ -10,13 +10,13 @@ use Rattle.sheet.specs.Bytes.{byte, half}
 use Rattle.sheet.specs.Parts.{Paired}
 use Rattle.sheet.specs.Table.{records, extent, table}
 use Rattle.sheet.specs.Decode.{wordForm, textForm, transitionForm, tripleForm, conditionsIn, actionsIn, transitionsIn, lastIn, conditionsAt, actionsAt, transitionsAt, lastAt, commonOf, sheetOf}
-use Rattle.sheet.specs.Encode.{halfBytes, wordBytes, textBytes, pairedBytes, templateBytes, written, tableBytes, headerBytes}
+use Rattle.sheet.specs.Encode.{halfBytes, wordBytes, textBytes, pairedBytes, written, tableBytes, headerBytes}
 use Rattle.sheet.specs.Reading.{sheetLayout}
 use Rattle.sheet.specs.Answer.{headerOf}
 use Rattle.sheet.proofs.Accepted.{Accepted, tables-end}
 use Rattle.sheet.proofs.Tables.{length-records}
 use Rattle.translation.specs.Translate.{pairsOf, copied, back, joined, added, extended, templateOf, translate}
-use Rattle.translation.specs.Walk.{textsAt, triplesAt, backWith, addedAt, copiedBytes, templatesAt, frameOf, tablesAt, headerAt}
+use Rattle.translation.specs.Walk.{textsAt, backWith, addedAt, copiedBytes, templatesAt, frameOf, tablesAt, headerAt}
 
 -- Texts are their own bytes.
 text-front : (s : List ℕ) → 1 + byte s 0 ≤ length s → textBytes (take (byte s 0) (drop 1 s)) ≡ take (1 + byte s 0) s

@@ -1,16 +1,15 @@
 -- The tables of the network, part by part. Assumes nothing.
-use mathlib.Core.Path.{_≡_, refl, sym, ap, subst, _∙_}
+use mathlib.Core.Path.{_≡_, refl, ap}
 use mathlib.Core.List.{List, [], _∷_, _++_}
-use Prim.Native.Nat.{ℕ, _+_, _*_, _≤_, _<_}
+use Prim.Native.Nat.{ℕ, _+_, _*_, _≤_}
 use native.Mathlib.Omega.{arith}
-use lib.ListN.{length, drop, length-append}
+use lib.ListN.{length}
 use Rattle.sheet.specs.declared.Header.{Header}
-use Rattle.sheet.specs.Parts.{Paired}
-use Rattle.sheet.specs.Table.{table, after, extent}
-use Rattle.sheet.specs.Decode.{wordForm, textForm, transitionForm, conditionsIn, actionsIn, conditionsAt, actionsAt, transitionsAt, lastAt, sheetOf}
+use Rattle.sheet.specs.Table.{table, after}
+use Rattle.sheet.specs.Decode.{wordForm, textForm, transitionForm, conditionsAt, actionsAt, lastAt, sheetOf}
 use Rattle.sheet.specs.Encode.{wordBytes, pairedBytes, written}
 use Rattle.sheet.specs.Reading.{sheetLayout}
-use Rattle.sheet.proofs.Accepted.{Accepted, accepted, bounds, length-said, tables-end}
+use Rattle.sheet.proofs.Accepted.{Accepted, accepted, bounds, tables-end}
 use Rattle.sheet.proofs.Limits.{sheet-longest}
 use Rattle.sheet.proofs.Tables.{fixed-after}
 use Rattle.translation.specs.declared.write.Frame.{Frame}
