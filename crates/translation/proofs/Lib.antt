@@ -3,3 +3,5 @@ pub mod Rows
 pub mod Writing
 pub mod Counting
 pub mod Networks
+pub mod Pairing
+pub mod Putting
