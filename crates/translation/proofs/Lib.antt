@@ -5,4 +5,5 @@ pub mod Copying
 pub mod Counting
 pub mod Networks
 pub mod Pairing
+pub mod Adding
 pub mod Putting
