@@ -2,6 +2,7 @@
 use mathlib.Core.Path.{_≡_, refl, sym, ap, subst, _∙_}
 use mathlib.Core.List.{List, [], _∷_, _++_, append-assoc, append-nil}
 use Prim.Native.Nat.{ℕ, zero, suc, _+_, _-_, _≤_, _<_}
+use native.Mathlib.Numerals.{add-one}
 use native.Mathlib.Omega.{arith}
 use borrow.Author.Tests.{eq-eqb, ne-eqb}
 use lib.ListN.{length, length-append}
@@ -12,7 +13,7 @@ use Rattle.sheet.specs.Encode.{pairBytes, pairedBytes, written}
 use Rattle.translation.specs.declared.write.Frame.{Frame}
 use Rattle.translation.specs.declared.write.Spot.{Spot}
 use Rattle.translation.specs.Translate.{pairsFrom, joined}
-use Rattle.translation.specs.Walk.{Room, Writes, WritesAdded, triplesAt, countedPairs, baseBytes, copiedAt, backWith}
+use Rattle.translation.specs.Walk.{Room, Writes, WritesAdded, triplesAt, countedPairs, baseBytes, copiedAt, backWith, backAt}
 use Rattle.translation.proofs.Writing.{writes-then}
 
 -- there is room for the second part
@@ -45,15 +46,19 @@ module _ (s : List ℕ) (f : Frame) (t v : Transition) (e : t ≡ v) where
     pub exit-then : (t .kind ≡ 0 → ⊥) → {q : List ℕ} {r : ℕ} → Writes p q m (0 ∷ []) r → Writes o q at (pairedBytes (copiedAt s f v)) r
     exit-then h {q} {r} w = subst (λ (l : List ℕ). Writes o q at l r) (sym (exit-bytes h)) (writes-then (baseBytes t) (0 ∷ []) first w)
 
+-- nothing added
+added-none : (o : List ℕ) (b : Spot) → WritesAdded o o b [] b
+unfolding written
+added-none o b = record { writes = record { all = refl; next = omega arith }; more = omega arith }
+
 -- The transition back to a state, where there are pairs.
 abbrev pub backBase : Frame → ℕ → ℕ → Transition
 backBase f q u = record { from = q; kind = 0; unit = u; condition = f .condition; action = f .action; to = q }
 
 module _ (f : Frame) (q u n : ℕ) where
-  pub back-none : (l : List Pair) → n ≡ length l → n ≡ 0 → (o : List ℕ) (b : Spot) → WritesAdded o o b (backWith f q u l) b
-  unfolding written
-  back-none [] e h o b = record { writes = record { all = refl; next = omega arith }; more = omega arith }
-  back-none (p ∷ l) e h o b = absurd (omega arith)
+  none : (l : List Pair) → n ≡ length l → n ≡ 0 → backWith f q u l ≡ []
+  none [] e h = refl
+  none (p ∷ l) e h = absurd (omega arith)
 
   back-bytes : (l : List Pair) → n ≡ length l → (n ≡ 0 → ⊥) → written pairedBytes (backWith f q u l) ≡ baseBytes (backBase f q u) ++ countedPairs l
   unfolding written
@@ -64,17 +69,24 @@ module _ (f : Frame) (q u n : ℕ) where
   back-one [] e h = absurd (h e)
   back-one (p ∷ l) e h = refl
 
-  module _ (l : List Pair) (e : n ≡ length l) (h : n ≡ 0 → ⊥) where
-    pub back-room : (at : ℕ) → Room at (written pairedBytes (backWith f q u l)) → Room at (baseBytes (backBase f q u) ++ countedPairs l)
-    back-room at k = subst (Room at) (back-bytes l e h) k
+  module _ (s : List ℕ) (e : n ≡ length (pairsFrom 0 q u (triplesAt s f))) where
+    pub back-none : n ≡ 0 → (o : List ℕ) (b : Spot) → WritesAdded o o b (backAt s f q u) b
+    back-none h o b = subst (λ (l : List Paired). WritesAdded o o b l b) (sym (none (pairsFrom 0 q u (triplesAt s f)) e h)) (added-none o b)
 
-    pub back-some : {o p x : List ℕ} (b : Spot) {m r : ℕ} → Writes o p (b .at) (baseBytes (backBase f q u)) m → Writes p x m (countedPairs l) r
-        → WritesAdded o x b (backWith f q u l) (record { at = r; added = b .added + 1 })
-    back-some {o} {p} {x} b {m} {r} v w =
-        record {
-          writes = subst (λ (k : List ℕ). Writes o x (b .at) k r) (sym (back-bytes l e h)) (writes-then (baseBytes (backBase f q u)) (countedPairs l) v w);
-          more = omega (arith, back-one l e h);
-        }
+    module _ (h : n ≡ 0 → ⊥) where
+      abbrev pairs : List Pair
+      pairs = pairsFrom 0 q u (triplesAt s f)
+
+      pub back-room : (at : ℕ) → Room at (written pairedBytes (backAt s f q u)) → Room at (baseBytes (backBase f q u) ++ countedPairs (pairsFrom 0 q u (triplesAt s f)))
+      back-room at k = subst (Room at) (back-bytes pairs e h) k
+
+      pub back-some : {o p x : List ℕ} (b : Spot) {m r : ℕ} → Writes o p (b .at) (baseBytes (backBase f q u)) m → Writes p x m (countedPairs (pairsFrom 0 q u (triplesAt s f))) r
+          → WritesAdded o x b (backAt s f q u) (record { at = r; added = b .added + 1 })
+      back-some {o} {p} {x} b {m} {r} v w =
+          record {
+            writes = subst (λ (k : List ℕ). Writes o x (b .at) k r) (sym (back-bytes pairs e h)) (writes-then (baseBytes (backBase f q u)) (countedPairs pairs) v w);
+            more = omega (arith, back-one pairs e h);
+          }
 
 -- What is joined: written so far, and room for the next part.
 written-append : {A : Type 0} (w : A → List ℕ) (x y : List A) → written w (x ++ y) ≡ written w x ++ written w y
@@ -95,22 +107,19 @@ pub record Adding (f : ℕ → List Paired) (n : ℕ) (o : List ℕ) (b : Spot) 
   pub few : k ≤ n
 
 module _ (f : ℕ → List Paired) where
-  -- a front is no longer than the whole
-  bytes-rise : (k d : ℕ) → length (written pairedBytes (joined k f)) ≤ length (written pairedBytes (joined (k + d) f))
+  -- a size of lists that adds up: the next part is within the whole
+  within : (m : List Paired → ℕ) → ((x y : List Paired) → m (x ++ y) ≡ m x + m y) → (k d n : ℕ) → n ≡ k + 1 + d → m (joined k f) + m (f k) ≤ m (joined n f)
   unfolding joined
-  bytes-rise k zero = omega arith
-  bytes-rise k (suc d) =
-      omega (arith, bytes-rise k d, length-append (written pairedBytes (joined (k + d) f)) (written pairedBytes (f (k + d))), ap length (written-append pairedBytes (joined (k + d) f) (f (k + d))))
-
-  many-rise : (k d : ℕ) → length (joined k f) ≤ length (joined (k + d) f)
-  unfolding joined
-  many-rise k zero = omega arith
-  many-rise k (suc d) = omega (arith, many-rise k d, length-append (joined (k + d) f) (f (k + d)))
+  within m sum k d zero e = absurd (omega arith)
+  within m sum k zero (suc n) e =
+      let h : k ≡ n = omega arith in
+      subst (λ (j : ℕ). m (joined k f) + m (f k) ≤ m (joined j f ++ f j)) h (omega (arith, sum (joined k f) (f k)))
+  within m sum k (suc d) (suc n) e = omega (arith, within m sum k d n (omega arith), sum (joined n f) (f n))
 
   module _ (n : ℕ) (o : List ℕ) (b : Spot) where
     pub adding-start : Adding f n o b o 0 b
-    unfolding joined written
-    adding-start = record { done = record { writes = record { all = refl; next = omega arith }; more = omega arith }; few = omega arith }
+    unfolding joined
+    adding-start = record { done = added-none o b; few = omega arith }
 
     module _ (out : List ℕ) (k : ℕ) (r : Spot) (g : Adding f n o b out k r) where
       pub adding-end : n ≤ k → WritesAdded o out b (joined n f) r
@@ -119,24 +128,14 @@ module _ (f : ℕ → List Paired) where
           subst (λ (m : ℕ). WritesAdded o out b (joined m f) r) e (g .done)
 
       module _ (h : k < n) where
-        whole : n ≡ k + 1 + (n - (k + 1))
-        whole = omega arith
-
         pub adding-room : Room (b .at) (written pairedBytes (joined n f)) → Room (r .at) (written pairedBytes (f k))
-        unfolding joined
         adding-room m =
-            let e = ap length (written-append pairedBytes (joined k f) (f k)) in
-            let l = length-append (written pairedBytes (joined k f)) (written pairedBytes (f k)) in
-            let d : length (written pairedBytes (joined (suc k) f)) ≤ length (written pairedBytes (joined n f)) = subst (λ (j : ℕ). length (written pairedBytes (joined (suc k) f)) ≤ length (written pairedBytes (joined j f))) (sym whole) (bytes-rise (k + 1) (n - (k + 1))) in
-            omega (arith, m, d, e, l, g .done .writes .next)
+            let sum : (x y : List Paired) → length (written pairedBytes (x ++ y)) ≡ length (written pairedBytes x) + length (written pairedBytes y) = λ x y. ap length (written-append pairedBytes x y) ∙ length-append (written pairedBytes x) (written pairedBytes y) in
+            omega (arith, m, within (λ l. length (written pairedBytes l)) sum k (n - (k + 1)) n (omega arith), g .done .writes .next)
 
         pub adding-many : b .added + length (joined n f) ≤ 1000 → r .added + length (f k) ≤ 1000
-        unfolding joined
-        adding-many m =
-            let l = length-append (joined k f) (f k) in
-            let d : length (joined (suc k) f) ≤ length (joined n f) = subst (λ (j : ℕ). length (joined (suc k) f) ≤ length (joined j f)) (sym whole) (many-rise (k + 1) (n - (k + 1))) in
-            omega (arith, m, d, l, g .done .more)
+        adding-many m = omega (arith, m, within length length-append k (n - (k + 1)) n (omega arith), g .done .more)
 
         pub adding-next : (p : List ℕ) (v : Spot) → WritesAdded out p r (f k) v → Adding f n o b p (k + 1) v
         unfolding joined
-        adding-next p v w = record { done = added-then b (joined k f) (f k) r v (g .done) w; few = omega arith }
+        adding-next p v w = record { done = rw (add-one k) (added-then b (joined k f) (f k) r v (g .done) w); few = omega arith }
