@@ -1,7 +1,7 @@
 -- Copying words, bytes and texts of a sheet: each loop's start, room, turn and end. Assumes nothing.
-use mathlib.Core.Path.{_≡_, refl, sym, subst, ap, _∙_}
+use mathlib.Core.Path.{_≡_, refl, sym, ap, _∙_}
 use mathlib.Core.List.{List, [], _∷_, _++_}
-use Prim.Native.Nat.{ℕ, zero, suc, _+_, _-_, _*_, _≤_, _<_}
+use Prim.Native.Nat.{ℕ, suc, _+_, _-_, _*_, _≤_, _<_}
 use native.Mathlib.Numerals.{add-one}
 use native.Mathlib.Omega.{arith}
 use lib.ListN.{length, getD, take, drop}
@@ -58,7 +58,6 @@ module _ (s : List ℕ) (from n : ℕ) (o : List ℕ) (at : ℕ) where
 -- The bytes from i to the end are to be written.
 pub record WritingBytes (s : List ℕ) (from n : ℕ) (o : List ℕ) (at : ℕ) (out : List ℕ) (i here : ℕ) : Type 0 where
   pub writing : Writing o at (take n (drop from s)) out here (take (from + n - i) (drop i s))
-  pub few : i ≤ from + n
 
 module _ (s : List ℕ) (from n : ℕ) (o : List ℕ) (at : ℕ) where
   abbrev bytes : List ℕ
@@ -67,7 +66,7 @@ module _ (s : List ℕ) (from n : ℕ) (o : List ℕ) (at : ℕ) where
   pub bytes-start : WritingBytes s from n o at o from at
   bytes-start =
       let e : from + n - from ≡ n = omega arith in
-      record { writing = rw e (writing-start o at bytes); few = omega arith }
+      record { writing = rw e (writing-start o at bytes) }
 
   module _ (out : List ℕ) (i here : ℕ) (g : WritingBytes s from n o at out i here) where
     pub bytes-end : from + n ≤ i → Writes o out at bytes here
@@ -88,7 +87,7 @@ module _ (s : List ℕ) (from n : ℕ) (o : List ℕ) (at : ℕ) where
       bytes-room = writing-room o at bytes out here (b ∷ []) byte-rest byte-parts
 
       pub bytes-next : (p : List ℕ) (r : ℕ) → Writes out p here (b ∷ []) r → WritingBytes s from n o at p (i + 1) r
-      bytes-next p r w = record { writing = writing-next o at bytes out here (b ∷ []) byte-rest byte-parts p r w; few = omega arith }
+      bytes-next p r w = record { writing = writing-next o at bytes out here (b ∷ []) byte-rest byte-parts p r w }
 
 -- `left` texts are to be written, from `place` on.
 pub record WritingTexts (s : List ℕ) (from n : ℕ) (o : List ℕ) (at : ℕ) (out : List ℕ) (left place here : ℕ) : Type 0 where

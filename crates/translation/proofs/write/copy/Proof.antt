@@ -2,7 +2,6 @@
 use borrow.Author.Needs.{needs}
 use mathlib.Core.Path.{refl}
 use Prim.Native.Nat.{_+_, _-_}
-use native.Mathlib.Omega.{arith}
 use Rattle.translation.proofs.Writing.{writes-length}
 use Rattle.translation.proofs.Copying.{WritingBytes, bytes-start, bytes-room, bytes-next, bytes-end}
 use Rattle.translation.proofs.write.copy.Statement.{statement}

@@ -20,10 +20,11 @@ copy-requires c κs =
     let pre = c .before .before .before .before .before .before .before .before .before .pre in
     let from = c .before .before .far .ensures .0 in
     let size = c .before .far2 .ensures .0 in
-    let within = text-within _ _ _ _ _ _ _ _ _ (c .before .before .before .before .before .before .loop .inv) (c .before .before .before .before .before .loop-test .taken) _ _ (c .before .before .before .before .byte-at .ensures) (c .before .before .before .wide .ensures .0) (pre .0) in
-    (omega (arith, within, from, size),
-     omega (arith, within, from, size, pre .1),
-     texts-room _ _ _ _ _ _ _ _ _ (c .before .before .before .before .before .before .loop .inv) (c .before .before .before .before .before .loop-test .taken) _ _ (c .before .before .before .before .byte-at .ensures) (c .before .before .before .wide .ensures .0) _ _ from size (pre .2))
+    let within = text-within _ _ _ _ _ _ _ _ _ (c .before .before .before .before .before .before .loop .inv) (c .before .before .before .before .before .loop-test .taken) _ _ (c .before .before .before .before .byte-at .ensures) (c .before .before .before .wide .ensures .0) (pre .0) in (
+      omega (arith, within, from, size),
+      omega (arith, within, from, size, pre .1),
+      texts-room _ _ _ _ _ _ _ _ _ (c .before .before .before .before .before .before .loop .inv) (c .before .before .before .before .before .loop-test .taken) _ _ (c .before .before .before .before .byte-at .ensures) (c .before .before .before .wide .ensures .0) _ _ from size (pre .2),
+    )
 
 add-place : tie.Need-add-place Inv-loop μ-loop
 add-place c =
