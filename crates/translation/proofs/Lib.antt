@@ -7,3 +7,6 @@ pub mod Networks
 pub mod Images
 pub mod Filling
 pub mod Tabling
+pub mod Pairing
+pub mod Adding
+pub mod Putting
