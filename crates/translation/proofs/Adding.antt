@@ -1,6 +1,6 @@
 -- Writing transitions with their pairs: those of the sheet, and those that are added. Assumes nothing.
 use mathlib.Core.Path.{_≡_, refl, sym, ap, subst, _∙_}
-use mathlib.Core.List.{List, [], _∷_, _++_, append-assoc, append-nil}
+use mathlib.Core.List.{List, [], _∷_, _++_, append-nil}
 use Prim.Native.Nat.{ℕ, zero, suc, _+_, _-_, _≤_, _<_}
 use native.Mathlib.Numerals.{add-one}
 use native.Mathlib.Omega.{arith}
@@ -14,11 +14,7 @@ use Rattle.translation.specs.declared.write.Frame.{Frame}
 use Rattle.translation.specs.declared.write.Spot.{Spot}
 use Rattle.translation.specs.Translate.{pairsFrom, joined}
 use Rattle.translation.specs.Walk.{Room, Writes, WritesAdded, triplesAt, countedPairs, baseBytes, copiedAt, backWith, backAt}
-use Rattle.translation.proofs.Writing.{writes-then}
-
--- there is room for the second part
-pub room-then : {o p : List ℕ} {at m : ℕ} (x y : List ℕ) → Writes o p at x m → Room at (x ++ y) → Room m y
-room-then x y w h = omega (arith, w .next, length-append x y)
+use Rattle.translation.proofs.Writing.{writes-then, room-then, written-append}
 
 -- how many pairs there are, then these
 pub counted-then : {o p q : List ℕ} {at m r n : ℕ} (l : List Pair) → n ≡ length l → Writes o p at (n ∷ []) m → Writes p q m (written pairBytes l) r → Writes o q at (countedPairs l) r
@@ -70,17 +66,17 @@ module _ (f : Frame) (q u n : ℕ) where
   back-one (p ∷ l) e h = refl
 
   module _ (s : List ℕ) (e : n ≡ length (pairsFrom 0 q u (triplesAt s f))) where
+    abbrev pairs : List Pair
+    pairs = pairsFrom 0 q u (triplesAt s f)
+
     pub back-none : n ≡ 0 → (o : List ℕ) (b : Spot) → WritesAdded o o b (backAt s f q u) b
-    back-none h o b = subst (λ (l : List Paired). WritesAdded o o b l b) (sym (none (pairsFrom 0 q u (triplesAt s f)) e h)) (added-none o b)
+    back-none h o b = subst (λ (l : List Paired). WritesAdded o o b l b) (sym (none pairs e h)) (added-none o b)
 
     module _ (h : n ≡ 0 → ⊥) where
-      abbrev pairs : List Pair
-      pairs = pairsFrom 0 q u (triplesAt s f)
+      pub back-room : (at : ℕ) → Room at (written pairedBytes (backAt s f q u)) → Room at (baseBytes (backBase f q u) ++ countedPairs pairs)
+      back-room at = subst (Room at) (back-bytes pairs e h)
 
-      pub back-room : (at : ℕ) → Room at (written pairedBytes (backAt s f q u)) → Room at (baseBytes (backBase f q u) ++ countedPairs (pairsFrom 0 q u (triplesAt s f)))
-      back-room at k = subst (Room at) (back-bytes pairs e h) k
-
-      pub back-some : {o p x : List ℕ} (b : Spot) {m r : ℕ} → Writes o p (b .at) (baseBytes (backBase f q u)) m → Writes p x m (countedPairs (pairsFrom 0 q u (triplesAt s f))) r
+      pub back-some : {o p x : List ℕ} (b : Spot) {m r : ℕ} → Writes o p (b .at) (baseBytes (backBase f q u)) m → Writes p x m (countedPairs pairs) r
           → WritesAdded o x b (backAt s f q u) (record { at = r; added = b .added + 1 })
       back-some {o} {p} {x} b {m} {r} v w =
           record {
@@ -88,12 +84,7 @@ module _ (f : Frame) (q u n : ℕ) where
             more = omega (arith, back-one pairs e h);
           }
 
--- What is joined: written so far, and room for the next part.
-written-append : {A : Type 0} (w : A → List ℕ) (x y : List A) → written w (x ++ y) ≡ written w x ++ written w y
-unfolding written
-written-append w [] y = refl
-written-append w (a ∷ x) y = ap (λ (l : List ℕ). w a ++ l) (written-append w x y) ∙ sym (append-assoc (w a) (written w x) (written w y))
-
+-- one list of transitions behind another
 added-then : {o p q : List ℕ} (b : Spot) (x y : List Paired) (m r : Spot) → WritesAdded o p b x m → WritesAdded p q m y r → WritesAdded o q b (x ++ y) r
 added-then {o} {q = q} b x y m r v w =
     record {
@@ -101,7 +92,7 @@ added-then {o} {q = q} b x y m r v w =
       more = omega (arith, v .more, w .more, length-append x y);
     }
 
--- what belongs to the numbers below k is written
+-- What is joined: that of the numbers below k is written.
 pub record Adding (f : ℕ → List Paired) (n : ℕ) (o : List ℕ) (b : Spot) (out : List ℕ) (k : ℕ) (r : Spot) : Type 0 where
   pub done : WritesAdded o out b (joined k f) r
   pub few : k ≤ n

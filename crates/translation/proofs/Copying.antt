@@ -1,59 +1,18 @@
--- Copying words, bytes and texts of a sheet: each loop's start, room, turn and end. Assumes nothing.
+-- Copying bytes and texts of a sheet: each loop's start, room, turn and end. Assumes nothing.
 use mathlib.Core.Path.{_≡_, refl, sym, ap, _∙_}
 use mathlib.Core.List.{List, [], _∷_, _++_}
-use Prim.Native.Nat.{ℕ, suc, _+_, _-_, _*_, _≤_, _<_}
+use Prim.Native.Nat.{ℕ, suc, _+_, _-_, _≤_, _<_}
 use native.Mathlib.Numerals.{add-one}
 use native.Mathlib.Omega.{arith}
 use lib.ListN.{length, getD, take, drop}
 use lib.Seq.{drop-cons, drop-drop, take-add}
 use Rattle.sheet.specs.Bytes.{byte}
-use Rattle.sheet.specs.Table.{Form, records, extent, table, after}
-use Rattle.sheet.specs.Decode.{wordForm, textForm}
-use Rattle.sheet.specs.Encode.{wordBytes, written}
-use Rattle.sheet.proofs.Tables.{table-step, after-step, after-none}
+use Rattle.sheet.specs.Table.{extent, after}
+use Rattle.sheet.specs.Decode.{textForm}
+use Rattle.sheet.proofs.Tables.{after-step, after-none}
 use Rattle.sheet.proofs.Loops.{byte-here}
 use Rattle.translation.specs.Walk.{Room, Writes, textsAt, WritesTexts}
 use Rattle.translation.proofs.Writing.{Writing, writing-start, writing-room, writing-next, writing-end}
-
--- the bytes of a table: those of its first record, and the rest
-pub written-step : {A : Type 0} (w : A → List ℕ) (F : Form A) (n : ℕ) (s : List ℕ) (a : ℕ)
-    → written w (table F (suc n) s a) ≡ w (F .value (drop a s)) ++ written w (table F n s (a + F .size (drop a s)))
-unfolding written
-written-step w F n s a = ap (written w) (table-step F n s a)
-
--- `left` words are to be written, from `place` on.
-pub record WritingWords (s : List ℕ) (from n : ℕ) (o : List ℕ) (at : ℕ) (out : List ℕ) (left place here : ℕ) : Type 0 where
-  pub writing : Writing o at (written wordBytes (table wordForm n s from)) out here (written wordBytes (table wordForm left s place))
-  pub there : place + 4 * left ≡ from + 4 * n
-
-module _ (s : List ℕ) (from n : ℕ) (o : List ℕ) (at : ℕ) where
-  abbrev words : List ℕ
-  words = written wordBytes (table wordForm n s from)
-
-  pub words-start : WritingWords s from n o at o n from at
-  words-start = record { writing = writing-start o at words; there = refl }
-
-  module _ (out : List ℕ) (left place here : ℕ) (g : WritingWords s from n o at out left place here) where
-    pub words-end : left ≤ 0 → Writes o out at words here
-    unfolding written records
-    words-end h =
-        let e : left ≡ 0 = omega arith in
-        writing-end o at words out here (rw e at (g .writing))
-
-    module _ (h : 0 < left) (m : ℕ) (e : m ≡ wordForm .value (drop place s)) where
-      abbrev word-rest : List ℕ
-      word-rest = written wordBytes (table wordForm (left - 1) s (place + 4))
-
-      word-parts : Writing o at words out here (wordBytes m ++ word-rest)
-      word-parts =
-          let k : left ≡ suc (left - 1) = omega arith in
-          rw (e, ← written-step wordBytes wordForm (left - 1) s place, ← k) (g .writing)
-
-      pub words-room : Room at words → Room here (wordBytes m)
-      words-room = writing-room o at words out here (wordBytes m) word-rest word-parts
-
-      pub words-next : (p : List ℕ) (r : ℕ) → Writes out p here (wordBytes m) r → WritingWords s from n o at p (left - 1) (place + 4) r
-      words-next p r w = record { writing = writing-next o at words out here (wordBytes m) word-rest word-parts p r w; there = omega (arith, g .there) }
 
 -- The bytes from i to the end are to be written.
 pub record WritingBytes (s : List ℕ) (from n : ℕ) (o : List ℕ) (at : ℕ) (out : List ℕ) (i here : ℕ) : Type 0 where

@@ -15,7 +15,7 @@ use Rattle.sheet.specs.Decode.{tripleForm}
 use Rattle.sheet.specs.Encode.{pairBytes, written}
 use Rattle.sheet.proofs.Tables.{table-step}
 use Rattle.translation.specs.Translate.{pairsFrom}
-use Rattle.translation.specs.Walk.{Writes}
+use Rattle.translation.specs.Walk.{Room, Writes}
 use Rattle.translation.proofs.Writing.{Writing, writing-start, writing-room, writing-next, writing-end}
 
 -- the pairs of the triples from number i on
@@ -27,11 +27,13 @@ pub record Seen (n at i place : ℕ) : Type 0 where
   pub few : i ≤ n
   pub there : place ≡ at + 4 * i
 
+-- `found` of them are of that state and unit
 pub record Tally (q u n : ℕ) (s : List ℕ) (at found i place : ℕ) : Type 0 where
   pub many : found + length (pairsLeft q u n s i place) ≡ length (pairsFrom 0 q u (table tripleForm n s at))
   pub low : found ≤ i
   pub seen : Seen n at i place
 
+-- the pairs of those are written
 pub record Listing (q u n : ℕ) (s : List ℕ) (from : ℕ) (o : List ℕ) (at : ℕ) (out : List ℕ) (i place here : ℕ) : Type 0 where
   pub writing : Writing o at (written pairBytes (pairsFrom 0 q u (table tripleForm n s from))) out here (written pairBytes (pairsLeft q u n s i place))
   pub seen : Seen n from i place
@@ -83,8 +85,8 @@ module _ (q u n : ℕ) (s : List ℕ) where
         unfolding written
         rest = rw there at (g .writing)
 
-        pub listing-room : at + length (written pairBytes (pairsFrom 0 q u (table tripleForm n s from))) ≤ 1000000 → here + 2 ≤ 1000000
-        listing-room k = writing-room o at _ out here (t .precondition ∷ i ∷ []) _ rest k
+        pub listing-room : Room at (written pairBytes (pairsFrom 0 q u (table tripleForm n s from))) → Room here (t .precondition ∷ i ∷ [])
+        listing-room = writing-room o at _ out here (t .precondition ∷ i ∷ []) _ rest
 
         pub listing-more : (p : List ℕ) (r : ℕ) → Writes out p here (t .precondition ∷ i ∷ []) r → Listing q u n s from o at p (i + 1) (place + 4) r
         listing-more p r w = record { writing = writing-next o at _ out here (t .precondition ∷ i ∷ []) _ rest p r w; seen = seen-next (g .seen) h }

@@ -6,9 +6,10 @@ use Rattle.translation.proofs.write.transition.Tie as tie
 
 with-pairs-requires : tie.Need-with-pairs-requires
 with-pairs-requires c κs =
-    let start = c .before .before .before .before .before .before .before .before .before .before in
-    (start .pre .0,
-      entry-room (start .args .s .now) (start .args .f) _ _ (c .before .before .before .before .before .before .before .transition-at .ensures) (c .before .before .before .before .before .base .ensures) (c .before .if1 .taken) (start .pre .1))
+    let start = c .before .before .before .before .before .before .before .before .before .before in (
+      start .pre .0,
+      entry-room (start .args .s .now) (start .args .f) _ _ (c .before .before .before .before .before .before .before .transition-at .ensures) (c .before .before .before .before .before .base .ensures) (c .before .if1 .taken) (start .pre .1),
+    )
 
 returns : tie.Need-returns
 returns c =
