@@ -16,6 +16,7 @@ use Rattle.sheet.specs.Answer.{headerOf}
 use Rattle.sheet.proofs.Accepted.{Accepted, tables-end}
 use Rattle.sheet.proofs.Tables.{length-records}
 use Rattle.translation.specs.Translate.{pairsOf, copied, back, joined, added, extended, templateOf, translate}
+use Rattle.translation.proofs.Writing.{written-append}
 use Rattle.translation.specs.Walk.{textsAt, backWith, addedAt, copiedBytes, templatesAt, frameOf, tablesAt, headerAt}
 
 -- Texts are their own bytes.
@@ -33,11 +34,6 @@ texts-written (suc n) s h =
     let rest = drop (1 + byte s 0) s in
     let long = length-drop (1 + byte s 0) s in
     ap₂ (λ (a b : List ℕ). a ++ b) (text-front s (omega arith)) (texts-written n rest (omega arith)) ∙ sym (take-add (1 + byte s 0) (extent textForm n rest) s)
-
-pub written-append : {A : Type 0} (w : A → List ℕ) (x y : List A) → written w (x ++ y) ≡ written w x ++ written w y
-unfolding written
-written-append w [] y = refl
-written-append w (a ∷ x) y = ap (λ (l : List ℕ). w a ++ l) (written-append w x y) ∙ sym (append-assoc (w a) (written w x) (written w y))
 
 -- The transitions that are added, by the numbers of the added condition and action.
 joined-same : {A : Type 0} (f g : ℕ → List A) → ((i : ℕ) → f i ≡ g i) → (n : ℕ) → joined n f ≡ joined n g
