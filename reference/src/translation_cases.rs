@@ -325,7 +325,7 @@ fn rooms_of_accepted(random: &mut Random, sheet: &[u8]) -> Vec<Room> {
     rooms
 }
 
-/// Room for any network of such a sheet; a few bytes; none.
+/// More bytes than most such sheets have; a few; none.
 fn rooms_of_refused(random: &mut Random) -> Vec<Room> {
     vec![
         room(random.between(150, 250), random.byte()),

@@ -1,6 +1,7 @@
 //! Translating, through the cases of `translation_cases`.
 
-use reference::machine::Kind;
+use reference::expr::Condition;
+use reference::machine::{Kind, Transition};
 use reference::network::Network;
 use reference::programs;
 use reference::sheet::{Sheet, LONGEST_SHEET};
@@ -196,85 +197,126 @@ fn a_byte_left_out_would_show() {
 
 // ---- Sorts ------------------------------------------------------------------------------------
 
-/// The states and units that have triples, in triple order.
-fn crowds(sheet: &Sheet) -> Vec<(u8, u8)> {
-    sheet.triples.iter().map(|t| (t.state, t.unit)).collect()
+/// Every sort of sheet, buffer and answer, and how often it is to occur at least.
+const WANTED: [(&str, usize); 39] = [
+    ("accepted sheet", 300),
+    ("refused sheet", 80),
+    ("no triples", 20),
+    ("triples in a state without transitions", 80),
+    ("triples of several states and units", 60),
+    ("triples out of order", 60),
+    ("four triples of a state and unit", 20),
+    ("an entry clashes with an added one", 80),
+    ("an entry with the condition true clashes", 40),
+    ("an entry of a unit with triples of other states only", 60),
+    ("an exit of a state and unit with triples", 80),
+    ("32 triples", 3),
+    ("96 transitions in the network", 1),
+    ("64 conditions before the added one", 2),
+    ("32 actions before the added one", 2),
+    ("no actions before the added one", 4),
+    ("monitor variables", 100),
+    ("the network has 255 bytes", 1),
+    ("the network has 256 bytes", 1),
+    ("the network has over 256 bytes", 12),
+    ("the longest sheet", 1),
+    ("the longest network of a sheet", 1),
+    ("buffer exactly as long", 300),
+    ("buffer one byte shorter", 300),
+    ("buffer shorter", 40),
+    ("buffer of 0 bytes", 300),
+    ("buffer longer", 295),
+    ("buffer of 8,192 bytes", 3),
+    ("buffer of a refused sheet", 240),
+    ("written", 600),
+    ("refused 19", 600),
+    ("refused 1", 30),
+    ("refused 2", 30),
+    ("refused 3", 30),
+    ("refused 4", 30),
+    ("refused 5", 30),
+    ("refused 6", 30),
+    ("refused 7", 30),
+    ("refused 8", 30),
+];
+
+fn met(tests: &[(&'static str, bool)]) -> Vec<&'static str> {
+    let met = tests.iter().filter(|(_, met)| *met);
+    met.map(|(name, _)| *name).collect()
 }
 
-/// The sorts of an accepted sheet.
-fn sorts(bytes: &[u8]) -> Vec<&'static str> {
-    let Ok(sheet) = Sheet::read(bytes) else {
-        return vec!["refused sheet"];
-    };
-    let crowds = crowds(&sheet);
-    let places: BTreeSet<(u8, u8)> = crowds.iter().copied().collect();
-    let states: BTreeSet<u8> = places.iter().map(|place| place.0).collect();
-    let units: BTreeSet<u8> = places.iter().map(|place| place.1).collect();
-    let meets = |kind: Kind| {
-        let of_kind = sheet.transitions.iter().filter(move |t| t.kind == kind);
-        of_kind.filter(|t| places.contains(&(t.from, t.unit)))
-    };
+/// What a sheet's triples are like.
+fn sorts_of_triples(sheet: &Sheet) -> Vec<&'static str> {
+    let all: Vec<(u8, u8)> = sheet.triples.iter().map(|t| (t.state, t.unit)).collect();
+    let states: BTreeSet<u8> = all.iter().map(|place| place.0).collect();
+    let units: BTreeSet<u8> = all.iter().map(|place| place.1).collect();
     let lonely = |state: &u8| sheet.transitions.iter().all(|t| t.from != *state);
-    let network = by_the_document(bytes);
-    let tests = [
-        ("accepted sheet", true),
-        ("no triples", crowds.is_empty()),
-        (
-            "triples in a state without transitions",
-            states.iter().any(lonely),
-        ),
-        (
-            "triples of several states and units",
-            states.len() > 1 && units.len() > 1,
-        ),
-        ("triples out of order", !crowds.is_sorted()),
-        (
-            "an entry clashes with an added one",
-            meets(Kind::Entry).count() > 0,
-        ),
-        (
-            "an entry with the condition true clashes",
-            meets(Kind::Entry)
-                .any(|t| sheet.machine.conditions[usize::from(t.condition)].bytes() == [0]),
-        ),
-        (
-            "an exit of a state and unit with triples",
-            meets(Kind::Exit).count() > 0,
-        ),
+    let together = |place: &(u8, u8)| all.iter().filter(|other| *other == place).count();
+    let several = states.len() > 1 && units.len() > 1;
+    let alone = states.iter().any(lonely);
+    let four = all.iter().any(|place| together(place) == 4);
+    met(&[
+        ("no triples", all.is_empty()),
+        ("triples in a state without transitions", alone),
+        ("triples of several states and units", several),
+        ("triples out of order", !all.is_sorted()),
+        ("four triples of a state and unit", four),
+        ("32 triples", all.len() == 32),
+    ])
+}
+
+/// How a sheet's transitions meet its triples.
+fn sorts_of_transitions(sheet: &Sheet) -> Vec<&'static str> {
+    let own = |t: &Transition| !sheet.triples_of(t.from, t.unit).is_empty();
+    let any = |test: &dyn Fn(&Transition) -> bool| sheet.transitions.iter().any(test);
+    let entry = |t: &Transition| t.kind == Kind::Entry;
+    let always =
+        |t: &Transition| sheet.machine.conditions[usize::from(t.condition)] == Condition::True;
+    let unit_has_triples = |t: &Transition| sheet.triples.iter().any(|u| u.unit == t.unit);
+    let elsewhere = any(&|t| entry(t) && !own(t) && unit_has_triples(t));
+    let clashes = any(&|t| entry(t) && own(t));
+    let clashes_always = any(&|t| entry(t) && own(t) && always(t));
+    let exits = any(&|t| !entry(t) && own(t));
+    met(&[
+        ("an entry clashes with an added one", clashes),
+        ("an entry with the condition true clashes", clashes_always),
         (
             "an entry of a unit with triples of other states only",
-            sheet.transitions.iter().any(|t| {
-                t.kind == Kind::Entry
-                    && units.contains(&t.unit)
-                    && !places.contains(&(t.from, t.unit))
-            }),
+            elsewhere,
         ),
-        (
-            "four triples of a state and unit",
-            places
-                .iter()
-                .any(|place| crowds.iter().filter(|c| *c == place).count() == 4),
-        ),
-        ("32 triples", crowds.len() == 32),
+        ("an exit of a state and unit with triples", exits),
+    ])
+}
+
+/// How large the tables are, and the network.
+fn sorts_of_sizes(bytes: &[u8]) -> Vec<&'static str> {
+    let network = by_the_document(bytes);
+    let no_actions = bytes[11] == 0 && bytes[13] > 0;
+    met(&[
         ("96 transitions in the network", network[12] == 96),
         ("64 conditions before the added one", bytes[10] == 64),
         ("32 actions before the added one", bytes[11] == 32),
-        (
-            "no actions before the added one",
-            bytes[11] == 0 && !crowds.is_empty(),
-        ),
+        ("no actions before the added one", no_actions),
         ("monitor variables", bytes[6] > 0),
         ("the network has 255 bytes", network.len() == 255),
         ("the network has 256 bytes", network.len() == 256),
         ("the network has over 256 bytes", network.len() > 256),
         ("the longest sheet", bytes.len() == LONGEST_SHEET),
         ("the longest network of a sheet", network.len() == 7_564),
-    ];
-    let met = tests.into_iter().filter(|(_, met)| *met);
-    met.map(|(name, _)| name).collect()
+    ])
 }
 
-/// The sort of a buffer.
+fn sorts(bytes: &[u8]) -> Vec<&'static str> {
+    let Ok(sheet) = Sheet::read(bytes) else {
+        return vec!["refused sheet"];
+    };
+    let mut sorts = vec!["accepted sheet"];
+    sorts.extend(sorts_of_triples(&sheet));
+    sorts.extend(sorts_of_transitions(&sheet));
+    sorts.extend(sorts_of_sizes(bytes));
+    sorts
+}
+
 fn sort_of_room(sheet: &[u8], room: Room) -> &'static str {
     let length = room.bytes().len();
     if Sheet::read(sheet).is_err() {
@@ -295,59 +337,22 @@ fn sort_of_room(sheet: &[u8], room: Room) -> &'static str {
 fn every_sort_occurs_often() {
     let frames = translation_cases::all();
     let mut counts: BTreeMap<String, usize> = BTreeMap::new();
-    let mut add = |label: String| *counts.entry(label).or_insert(0) += 1;
+    let mut add = |label: &str| *counts.entry(label.to_string()).or_insert(0) += 1;
     for frame in &frames {
-        sorts(&frame.sheet).iter().for_each(|s| add(s.to_string()));
+        sorts(&frame.sheet).into_iter().for_each(&mut add);
     }
     for (sheet, room, line) in calls(&frames) {
-        add(sort_of_room(sheet, room).to_string());
+        add(sort_of_room(sheet, room));
         match parts(&line) {
-            ("refused", number, _) => add(format!("refused {number}")),
-            (answer, _, _) => add(answer.to_string()),
+            ("refused", number, _) => add(&format!("refused {number}")),
+            (answer, _, _) => add(answer),
         }
     }
-    for (label, count) in &counts {
-        println!("{count:>6}  {label}");
-    }
-    let mut wanted = vec![
-        ("accepted sheet", 300),
-        ("refused sheet", 80),
-        ("no triples", 20),
-        ("triples in a state without transitions", 80),
-        ("triples of several states and units", 60),
-        ("triples out of order", 60),
-        ("an entry clashes with an added one", 80),
-        ("an entry with the condition true clashes", 40),
-        ("an exit of a state and unit with triples", 80),
-        ("an entry of a unit with triples of other states only", 60),
-        ("four triples of a state and unit", 20),
-        ("32 triples", 3),
-        ("96 transitions in the network", 1),
-        ("64 conditions before the added one", 2),
-        ("32 actions before the added one", 2),
-        ("no actions before the added one", 4),
-        ("monitor variables", 100),
-        ("the network has 255 bytes", 1),
-        ("the network has 256 bytes", 1),
-        ("the network has over 256 bytes", 12),
-        ("the longest sheet", 1),
-        ("the longest network of a sheet", 1),
-        ("buffer exactly as long", 300),
-        ("buffer one byte shorter", 300),
-        ("buffer shorter", 40),
-        ("buffer of 0 bytes", 300),
-        ("buffer longer", 295),
-        ("buffer of 8,192 bytes", 3),
-        ("buffer of a refused sheet", 240),
-        ("written", 600),
-        ("refused 19", 600),
-    ];
-    let refusals: Vec<String> = (1..=8).map(|n| format!("refused {n}")).collect();
-    wanted.extend(refusals.iter().map(|label| (&label[..], 30)));
-    for (label, least) in &wanted {
-        let found = counts.get(*label).copied().unwrap_or(0);
-        assert!(found >= *least, "{label}: {found}");
+    for (label, least) in WANTED {
+        let found = counts.remove(label).unwrap_or(0);
+        println!("{found:>6}  {label}");
+        assert!(found >= least, "{label}: {found}");
     }
     // And no other sort.
-    assert_eq!(counts.len(), wanted.len());
+    assert!(counts.is_empty(), "{counts:?}");
 }
