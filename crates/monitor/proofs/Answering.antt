@@ -18,7 +18,7 @@ use Rattle.sheet.specs.Reading.{reading, sheetLayout}
 use Rattle.sheet.specs.Bytes.{byte}
 use Rattle.sheet.specs.Log.{logReading, recordsIn, eventsOf}
 use Rattle.sheet.specs.Answer.{answer, logAnswer, headerOf}
-use Rattle.step.specs.declared.Call.{Call}
+use Rattle.sheet.proofs.Answers.{answer-refused}
 use Rattle.step.specs.declared.Answer.{Answer}
 use Rattle.step.specs.declared.Answer.the-variants as offer
 use Rattle.step.specs.declared.RunAnswer.{RunAnswer}
@@ -77,10 +77,6 @@ module _ (S : _) (σ : Monitor.State) (event : Record) (values : List ℕ) (z : 
     pub taken-exit : (event .kind ≡ 0 → ⊥) → r ≡ pad (Monitor.exited S σ (eventOf event values)) → r ≡ pad (Monitor.offer S σ (eventOf event values) .state)
     taken-exit h e = e ∙ sym (ap pad (offer-taken S σ (eventOf event values) z ∙ rw (ne-eqb (event .kind) 0 h)))
 
-abbrev isRefused : Reading → Bool
-isRefused Accepted = false
-isRefused (Refused n) = true
-
 -- What offering an event answers.
 abbrev offeredWith : Answer → WatchState → Offered
 offeredWith a w = record { answer = a; state = w }
@@ -114,30 +110,16 @@ asRun Accepted = run.Refused 0
 asRun (Refused n) = run.Refused n
 
 module _ (s : List ℕ) (r : Reading) (er : r ≡ answer (reading sheetLayout s)) where
-  pub read-accepted : r ≡ Accepted → reading sheetLayout s ≡ 0
-  read-accepted h = go (reading sheetLayout s) (sym er ∙ h)
-    where
-      go : (m : ℕ) → answer m ≡ Accepted → m ≡ 0
-      go zero e = refl
-      go (suc m) e = absurd (false≢true (sym (ap isRefused e)))
-
-  refused-number : (n : ℕ) → r ≡ Refused n → (m : ℕ) × (reading sheetLayout s ≡ suc m) × (Refused n ≡ Refused (suc m))
-  refused-number n h = go (reading sheetLayout s) (sym er ∙ h)
-    where
-      go : (m : ℕ) → answer m ≡ Refused n → (k : ℕ) × (m ≡ suc k) × (Refused n ≡ Refused (suc k))
-      go zero e = absurd (false≢true (ap isRefused e))
-      go (suc m) e = (m, refl, sym e)
-
   pub offer-unread : (n : ℕ) → r ≡ Refused n → (w : WatchState) (event : Record) (values : List ℕ) → offeredWith (offer.Refused n) w ≡ offerOf s w (eventOf event values)
   unfolding offerOf offerRefusal
   offer-unread n h w event values =
-      let (m, f, e) = refused-number n h in
+      let (m, f, e) = answer-refused (reading sheetLayout s) r er n h in
       rw f (ap (λ (x : Reading). offeredWith (asOffered x) w) e)
 
   pub run-unread : (n : ℕ) → r ≡ Refused n → (log : List ℕ) → run.Refused n ≡ runOf s log
   unfolding runOf
   run-unread n h log =
-      let (m, f, e) = refused-number n h in
+      let (m, f, e) = answer-refused (reading sheetLayout s) r er n h in
       rw f (ap asRun e)
 
 -- a log that is read, or not

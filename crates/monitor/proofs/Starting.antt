@@ -1,8 +1,7 @@
 -- The fresh state, from the header and the words behind it. Assumes nothing.
-use mathlib.Core.Path.{_≡_, refl, sym, ap, _∙_}
-use mathlib.Core.Bool.{Bool, true, false, false≢true}
+use mathlib.Core.Path.{_≡_, refl}
 use mathlib.Core.List.{List, [], _∷_}
-use Prim.Native.Nat.{ℕ, zero, suc}
+use Prim.Native.Nat.{ℕ}
 use lib.ListN.{getD}
 use Rattle.sheet.specs.declared.Header.{Header}
 use Rattle.sheet.specs.declared.Reading.{Reading}
@@ -11,10 +10,11 @@ use Rattle.sheet.specs.Table.{table, fit}
 use Rattle.sheet.specs.Decode.{wordForm, commonOf, sheetOf}
 use Rattle.sheet.specs.Reading.{reading, sheetLayout}
 use Rattle.sheet.specs.Answer.{headerOf, answer}
+use Rattle.sheet.proofs.Answers.{answer-accepted, answer-refused}
 use Rattle.monitor.specs.declared.WatchState.{WatchState}
 use Rattle.monitor.specs.declared.Fresh.{Fresh}
 use Rattle.monitor.specs.Monitor.{fresh}
-use Rattle.monitor.specs.Padded.{zeroState, pad, whenAccepted, freshOf}
+use Rattle.monitor.specs.Padded.{zeroState, pad, freshOf}
 
 -- the first four of eight words
 abbrev four : List ℕ → List ℕ
@@ -37,23 +37,13 @@ started-found s h w z e f g = rw (g, f, e, four-of-eight (table wordForm (header
 abbrev made : Reading → WatchState → Fresh
 made r τ = record { reading = r; state = τ }
 
-abbrev isAccepted : Reading → Bool
-isAccepted Accepted = true
-isAccepted (Refused n) = false
-
 module _ (s : List ℕ) (r : Reading) (e : r ≡ answer (reading sheetLayout s)) (τ : WatchState) where
   pub fresh-accepted : r ≡ Accepted → τ ≡ pad (fresh (sheetOf s)) → made Accepted τ ≡ freshOf s
   unfolding freshOf
-  fresh-accepted h f = go (reading sheetLayout s) (sym e ∙ h)
-    where
-      go : (n : ℕ) → answer n ≡ Accepted → made Accepted τ ≡ made (answer n) (whenAccepted n (pad (fresh (sheetOf s))))
-      go zero k = rw f
-      go (suc n) k = absurd (false≢true (ap isAccepted k))
+  fresh-accepted h f = rw (answer-accepted (reading sheetLayout s) r e h, f)
 
   pub fresh-refused : (m : ℕ) → r ≡ Refused m → τ ≡ zeroState → made (Refused m) τ ≡ freshOf s
   unfolding freshOf
-  fresh-refused m h f = go (reading sheetLayout s) (sym e ∙ h)
-    where
-      go : (n : ℕ) → answer n ≡ Refused m → made (Refused m) τ ≡ made (answer n) (whenAccepted n (pad (fresh (sheetOf s))))
-      go zero k = absurd (false≢true (sym (ap isAccepted k)))
-      go (suc n) k = rw (f, k)
+  fresh-refused m h f =
+      let (k, g, x) = answer-refused (reading sheetLayout s) r e m h in
+      rw (g, f, x)

@@ -10,5 +10,6 @@ pub mod Refusals
 pub mod Logs
 pub mod Encoding
 pub mod Accepted
+pub mod Answers
 pub mod Limits
 pub mod Rows

@@ -1,12 +1,13 @@
 -- Writing lists one behind the other. Assumes nothing.
 use mathlib.Core.Path.{_≡_, refl, sym, ap, _∙_}
 use mathlib.Core.Logic.{_⊎_, inl, inr}
-use mathlib.Core.List.{List, [], _∷_, _++_}
+use mathlib.Core.List.{List, [], _∷_, _++_, append-assoc}
 use Prim.Native.Nat.{ℕ, suc, _+_, _≤_, _<_}
 use native.Mathlib.Omega.{arith}
 use lib.ListN.{length, set, length-append}
 use lib.Seq.{sets, length-sets, set-out}
-use Rattle.translation.specs.Walk.{Writes}
+use Rattle.sheet.specs.Encode.{written}
+use Rattle.translation.specs.Walk.{Room, Writes}
 
 pub sets-append : (l : List ℕ) (i : ℕ) (x y : List ℕ) → sets l i (x ++ y) ≡ sets (sets l i x) (i + length x) y
 sets-append l i [] y = ap (λ (k : ℕ). sets l k y) (omega arith)
@@ -28,6 +29,16 @@ writes-then {o} {at = at} x y v w =
       all = w .all ∙ rw (v .all, v .next) (sym (sets-append o at x y));
       next = omega (arith, v .next, w .next, length-append x y);
     }
+
+-- and room for the second
+pub room-then : {o p : List ℕ} {at m : ℕ} (x y : List ℕ) → Writes o p at x m → Room at (x ++ y) → Room m y
+room-then x y w h = omega (arith, w .next, length-append x y)
+
+-- the bytes of records, and of more
+pub written-append : {A : Type 0} (w : A → List ℕ) (x y : List A) → written w (x ++ y) ≡ written w x ++ written w y
+unfolding written
+written-append w [] y = refl
+written-append w (a ∷ x) y = ap (λ (l : List ℕ). w a ++ l) (written-append w x y) ∙ sym (append-assoc (w a) (written w x) (written w y))
 
 -- With `rest` to be written from `here` on, all of `whole` is written from `at` on.
 pub record Writing (o : List ℕ) (at : ℕ) (whole out : List ℕ) (here : ℕ) (rest : List ℕ) : Type 0 where
@@ -54,3 +65,7 @@ module _ (o : List ℕ) (at : ℕ) (whole : List ℕ) where
     -- nothing is left
     pub writing-end : Writing o at whole out here [] → Writes o out at whole here
     writing-end g = record { all = g .all; next = omega (arith, g .place) }
+
+    -- the last part is written
+    pub writing-last : (l : List ℕ) → Writing o at whole out here l → (p : List ℕ) (r : ℕ) → Writes out p here l r → Writes o p at whole r
+    writing-last l g p r w = record { all = rw (w .all) (g .all); next = omega (arith, w .next, g .place) }

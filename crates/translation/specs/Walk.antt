@@ -12,14 +12,15 @@ use Rattle.sheet.specs.declared.Triple.{Triple}
 use Rattle.sheet.specs.declared.Pair.{Pair}
 use Rattle.sheet.specs.Parts.{Paired}
 use Rattle.sheet.specs.Table.{extent, table, after}
-use Rattle.sheet.specs.Decode.{wordForm, textForm, transitionForm, tripleForm, conditionsIn, actionsIn, lastIn, transitionsAt, lastAt}
+use Rattle.sheet.specs.Decode.{wordForm, textForm, transitionForm, tripleForm, conditionsIn, actionsIn, lastIn, transitionsAt, lastAt, sheetOf}
 use Rattle.sheet.specs.Reading.{reading, sheetLayout}
 use Rattle.sheet.specs.Answer.{headerOf}
 use Rattle.sheet.specs.Encode.{halfBytes, wordBytes, pairBytes, pairedBytes, templateBytes, written}
 use Rattle.translation.specs.declared.write.Frame.{Frame}
 use Rattle.translation.specs.declared.write.Spot.{Spot}
 use Rattle.translation.specs.declared.write.Both.{Both}
-use Rattle.translation.specs.Translate.{pairsFrom, joined, templateOf}
+use Rattle.translation.specs.Translate.{pairsFrom, joined, added, templateOf}
+use Rattle.translation.specs.Answer.{networkBytes}
 
 -- places stay small
 abbrev pub Room : ℕ → List ℕ → Type 0
@@ -89,10 +90,14 @@ pub record Prepared (s : List ℕ) (h : Header) (f : Frame) (transitions : ℕ) 
 
 unfoldable pub tablesAt : List ℕ → Header → Frame → ℕ → List ℕ
 tablesAt s h f transitions =
+    let conditions = after wordForm (h .monitors) s 14 in
+    let actions = after textForm (h .conditions) s conditions in
     written wordBytes (table wordForm (h .monitors) s 14)
-    ++ (textsAt s (after wordForm (h .monitors) s 14) (h .conditions) ++ 1 ∷ 0 ∷ []
-    ++ (textsAt s (after textForm (h .conditions) s (after wordForm (h .monitors) s 14)) (h .actions) ++ 0 ∷ []
-    ++ (copiedBytes s f transitions (h .transitions) ++ (written pairedBytes (addedAt s f (h .states) (h .units)) ++ templatesAt s f))))
+    ++ (textsAt s conditions (h .conditions)
+    ++ 1 ∷ 0 ∷ (textsAt s actions (h .actions)
+    ++ 0 ∷ (copiedBytes s f transitions (h .transitions)
+    ++ (written pairedBytes (addedAt s f (h .states) (h .units))
+    ++ templatesAt s f))))
 
 pub record WritesTables (s : List ℕ) (h : Header) (f : Frame) (transitions : ℕ) (o p : List ℕ) (at : ℕ) (r : Spot) : Type 0 where
   pub writes : Writes o p at (tablesAt s h f transitions) (r .at)
@@ -102,3 +107,8 @@ pub record WritesTables (s : List ℕ) (h : Header) (f : Frame) (transitions : �
 abbrev pub headerAt : Header → ℕ → ℕ → List ℕ
 headerAt h size transitions =
     halfBytes size ++ 2 ∷ h .states ∷ h .units ∷ h .programs ∷ h .monitors ∷ h .start ∷ (halfBytes (h .bad) ++ (h .conditions + 1) ∷ (h .actions + 1) ∷ transitions ∷ h .last ∷ [])
+
+-- how long the network is, and how many transitions are added
+pub record Measures (s : List ℕ) (r : Spot) : Type 0 where
+  pub size : r .at ≡ length (networkBytes s)
+  pub added : r .added ≡ length (added (sheetOf s))

@@ -1,9 +1,23 @@
 // A sheet's network, written into a lent buffer.
 
+ghost use mathlib.Core.Path.{_≡_};
+ghost use Rattle.translation.specs.Answer.{translatedOf, bufferOf};
+use sheet::Reading;
+
 mod write;
 
 // What translating answers: how many bytes the network has, or the refusal.
 pub enum Translated {
     Written(usize),
     Refused(u8),
+}
+
+// Translates a sheet: writes its network at the front of the buffer, or nothing where it is refused.
+pub fn translate(s: &[u8], out: &mut [u8]) -> Translated
+    ensures { λ r. ⌜ (r ≡ translatedOf (now (s .entry)) (now (out .entry))) × (now (out .exit) ≡ bufferOf (now (s .entry)) (now (out .entry))) ⌝ }
+{
+    match sheet::read_sheet(s) {
+        Reading::Accepted => write::translate(s, out),
+        Reading::Refused(n) => Translated::Refused(n),
+    }
 }

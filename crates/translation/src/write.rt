@@ -8,7 +8,10 @@ ghost use Rattle.sheet.specs.Table.{table, after};
 ghost use Rattle.sheet.specs.Decode.{wordForm, textForm, transitionOf};
 ghost use Rattle.sheet.specs.Encode.{halfBytes, wordBytes, pairBytes, pairedBytes, written};
 ghost use Rattle.translation.specs.Translate.{pairsFrom, joined};
-ghost use Rattle.translation.specs.Walk.{Room, Prepared, Writes, WritesTables, WritesAdded, textsAt, WritesTexts, triplesAt, countedPairs, baseBytes, copiedAt, backAt, copiedBytes, addedAt, templatesAt, headerAt};
+ghost use Rattle.sheet.specs.Reading.{reading, sheetLayout};
+ghost use Rattle.translation.specs.Answer.{networkBytes, translatedOf, bufferOf};
+ghost use Rattle.translation.specs.Walk.{Room, Prepared, Measures, Writes, WritesTables, WritesAdded, textsAt, WritesTexts, triplesAt, countedPairs, baseBytes, copiedAt, backAt, copiedBytes, addedAt, templatesAt, headerAt};
+use crate::Translated;
 use sheet::Header;
 use sheet::Transition;
 
@@ -314,6 +317,52 @@ fn header(out: &mut [u8], h: Header, size: u16, transitions: u8) -> usize
     let sixth = put_half(out, fifth, h.bad);
     let last = put_two(out, sixth, h.conditions + 1, h.actions + 1);
     put_two(out, last, transitions, h.last)
+}
+
+// How long the network is, and how many transitions are added: it is written where there is no room.
+fn measure(s: &[u8], h: Header, f: Frame, from: u32) -> Spot
+    requires { ⌜ Prepared (now s) h f from ⌝ }
+    ensures { λ r. ⌜ Measures (now (s .entry)) r ⌝ }
+{
+    let mut none = [0u8; 1];
+    tables(s, h, f, from, &mut none, 14)
+}
+
+// Writes the network at the front of a buffer that holds it.
+fn fill(s: &[u8], h: Header, f: Frame, from: u32, size: Spot, out: &mut [u8])
+    requires { ⌜ Prepared (now s) h f from × Measures (now s) size × (length (networkBytes (now s)) ≤ length (now out)) ⌝ }
+    ensures { λ _. ⌜ now (out .exit) ≡ networkBytes (now (s .entry)) ++ drop (length (networkBytes (now (s .entry)))) (now (out .entry)) ⌝ }
+{
+    let n = near(h.transitions) + size.added;
+    let at = header(out, h, size.at as u16, n as u8);
+    tables(s, h, f, from, out, at);
+}
+
+// Translates an accepted sheet.
+pub(crate) fn translate(s: &[u8], out: &mut [u8]) -> Translated
+    requires { ⌜ reading sheetLayout (now s) ≡ 0 ⌝ }
+    ensures { λ r. ⌜ (r ≡ translatedOf (now (s .entry)) (now (out .entry))) × (now (out .exit) ≡ bufferOf (now (s .entry)) (now (out .entry))) ⌝ }
+{
+    let h = sheet::header_of(s);
+    let p = sheet::sheet_places(s);
+    let f = Frame {
+        triples: p.last,
+        count: h.last,
+        condition: h.conditions,
+        action: h.actions,
+    };
+    let size = measure(s, h, f, p.transitions);
+    if out.len() < size.at {
+        return Translated::Refused(19);
+    }
+    fill(s, h, f, p.transitions, size, out);
+    Translated::Written(size.at)
+}
+
+fn near(x: u8) -> usize
+    ensures { λ r. ⌜ (r ≡ x) × (r < 256) ⌝ }
+{
+    x as usize
 }
 
 fn wide(x: u8) -> u32

@@ -1,11 +1,12 @@
 -- `offer` meets its contract. Assumes nothing.
-use Rattle.monitor.proofs.Answering.{read-accepted, offer-unread}
+use Rattle.monitor.proofs.Answering.{offer-unread}
 use borrow.Author.Needs.{needs}
+use Rattle.sheet.proofs.Answers.{answer-accepted}
 use Rattle.monitor.proofs.offer.Statement.{statement}
 use Rattle.monitor.proofs.offer.Tie as tie
 
 offer-accepted-requires : tie.Need-offer-accepted-requires
-offer-accepted-requires c κs = read-accepted _ _ (c .before .before .read-sheet .ensures) (search needs)
+offer-accepted-requires c κs = answer-accepted _ _ (c .before .before .read-sheet .ensures) (search needs)
 
 returns-2 : tie.Need-returns-2
 returns-2 c =

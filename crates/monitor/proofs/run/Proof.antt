@@ -1,11 +1,12 @@
 -- `run` meets its contract. Assumes nothing.
-use Rattle.monitor.proofs.Answering.{read-accepted, run-unread}
+use Rattle.monitor.proofs.Answering.{run-unread}
 use borrow.Author.Needs.{needs}
+use Rattle.sheet.proofs.Answers.{answer-accepted}
 use Rattle.monitor.proofs.run.Statement.{statement}
 use Rattle.monitor.proofs.run.Tie as tie
 
 run-accepted-requires : tie.Need-run-accepted-requires
-run-accepted-requires c κs = read-accepted _ _ (c .before .before .read-sheet .ensures) (search needs)
+run-accepted-requires c κs = answer-accepted _ _ (c .before .before .read-sheet .ensures) (search needs)
 
 returns-2 : tie.Need-returns-2
 returns-2 c = run-unread _ _ (c .before .before .before .read-sheet .ensures) _ (search needs) _
