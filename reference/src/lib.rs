@@ -24,5 +24,7 @@ pub mod sheet_frames;
 pub mod state;
 pub mod tally;
 pub mod translate;
+pub mod translation_cases;
+pub mod translation_frames;
 
 pub use refusal::Refusal;

@@ -1,7 +1,8 @@
 //! The case programs, and what their input and expected output hold. To add one, add a line to
 //! `PROGRAMS` and describe its frames in CASES.md.
 
-use crate::{condition_cases, monitor_cases, sheet_cases};
+use crate::translation_frames::Frame;
+use crate::{condition_cases, monitor_cases, sheet_cases, translation_cases};
 
 pub struct Program {
     /// The directory under `crates/`.
@@ -37,6 +38,14 @@ pub const PROGRAMS: &[Program] = &[
         make: || {
             let rows = monitor_cases::all();
             gather(rows.iter(), |r, out| r.frame.write(out), |r| r.line.clone())
+        },
+    },
+    Program {
+        name: "translation_cases",
+        make: || {
+            let frames = translation_cases::all();
+            let lines = |f: &&Frame| Some(f.lines().join("\n"));
+            gather(frames.iter(), |f, out| f.write(out), lines)
         },
     },
 ];

@@ -90,7 +90,12 @@ fn cases_writes_what_it_checks() {
 
 /// The files of every program, below `crates/`.
 fn case_files() -> Vec<PathBuf> {
-    let names = ["condition_cases", "sheet_cases", "monitor_cases"];
+    let names = [
+        "condition_cases",
+        "sheet_cases",
+        "monitor_cases",
+        "translation_cases",
+    ];
     assert!(PROGRAMS.iter().map(|program| program.name).eq(names));
     let files = |name| ["stdin", "stdout"].map(|file| Path::new(name).join(file));
     names.into_iter().flat_map(files).collect()
