@@ -108,14 +108,19 @@ fn judge_action(bytes: &[u8], counts: Counts) -> String {
     }
 }
 
+/// Reads one after the other to the end of the bytes; `None` where they do not fill it exactly.
+pub(crate) fn read_all<T>(bytes: &[u8], read: fn(&mut &[u8]) -> Option<T>) -> Option<Vec<T>> {
+    let mut rest = bytes;
+    let mut all = Vec::new();
+    while !rest.is_empty() {
+        all.push(read(&mut rest)?);
+    }
+    Some(all)
+}
+
 /// Reads frames to the end of the bytes; `None` where they do not fill it exactly.
 pub fn read_frames(bytes: &[u8]) -> Option<Vec<Frame>> {
-    let mut rest = bytes;
-    let mut frames = Vec::new();
-    while !rest.is_empty() {
-        frames.push(read_frame(&mut rest)?);
-    }
-    Some(frames)
+    read_all(bytes, read_frame)
 }
 
 fn read_frame(rest: &mut &[u8]) -> Option<Frame> {

@@ -2,7 +2,7 @@
 //! and runs logs. See CASES.md.
 
 use crate::engine::{fresh_sheet_state, sheet_event};
-use crate::frames::take;
+use crate::frames::{read_all, take};
 use crate::run::{run_sheet, Outcome, Record};
 use crate::state::{Cause, SheetState, Verdict};
 use std::fmt::Write;
@@ -233,12 +233,7 @@ fn put(text: &mut String, name: &str, value: i64) {
 
 /// Reads frames to the end of the bytes; `None` where they do not fill it exactly.
 pub fn read_frames(bytes: &[u8]) -> Option<Vec<Frame>> {
-    let mut rest = bytes;
-    let mut frames = Vec::new();
-    while !rest.is_empty() {
-        frames.push(read_frame(&mut rest)?);
-    }
-    Some(frames)
+    read_all(bytes, read_frame)
 }
 
 fn read_frame(rest: &mut &[u8]) -> Option<Frame> {

@@ -1,6 +1,6 @@
 //! The frames of `sheet_cases`: bytes to be read as a sheet, a network or a log. See CASES.md.
 
-use crate::frames::take;
+use crate::frames::{read_all, take};
 use crate::machine::Places;
 use crate::network::Network;
 use crate::refusal::Refusal;
@@ -63,12 +63,7 @@ pub fn records(count: usize) -> String {
 
 /// Reads frames to the end of the bytes; `None` where they do not fill it exactly.
 pub fn read_frames(bytes: &[u8]) -> Option<Vec<Frame>> {
-    let mut rest = bytes;
-    let mut frames = Vec::new();
-    while !rest.is_empty() {
-        frames.push(read_frame(&mut rest)?);
-    }
-    Some(frames)
+    read_all(bytes, read_frame)
 }
 
 fn read_frame(rest: &mut &[u8]) -> Option<Frame> {

@@ -1,6 +1,6 @@
 //! The frames of `translation_cases`: a sheet, and the buffers it is translated into. See CASES.md.
 
-use crate::frames::take;
+use crate::frames::{read_all, take};
 use crate::translate::{translate, BUFFER};
 
 /// A buffer as it is lent.
@@ -63,12 +63,7 @@ fn line(sheet: &[u8], room: Room) -> String {
 
 /// Reads frames to the end of the bytes; `None` where they do not fill it exactly.
 pub fn read_frames(bytes: &[u8]) -> Option<Vec<Frame>> {
-    let mut rest = bytes;
-    let mut frames = Vec::new();
-    while !rest.is_empty() {
-        frames.push(read_frame(&mut rest)?);
-    }
-    Some(frames)
+    read_all(bytes, read_frame)
 }
 
 fn read_frame(rest: &mut &[u8]) -> Option<Frame> {

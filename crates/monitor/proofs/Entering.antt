@@ -35,6 +35,7 @@ use Rattle.monitor.specs.Monitor.{Armed, arms, armedBy, entered, refusal
 use Rattle.monitor.specs.Sound.{sound}
 use Rattle.monitor.specs.Padded.{zeroArms, padArms, pad, view}
 use Rattle.monitor.specs.Walk.{Prepared, Ready, movedFrom, movedTo, armsAt}
+use Rattle.monitor.proofs.Broken.{noTriple}
 use Rattle.monitor.proofs.Calls.{Free, free}
 use Rattle.monitor.proofs.Moving.{moved-fits}
 
@@ -57,9 +58,6 @@ numbers-same : {A : Type 0} (q r : A → Bool) (d : A) (j : ℕ) (l : List A) �
 unfolding numbers
 numbers-same q r d j [] h = refl
 numbers-same q r d j (x ∷ l) h = rw (h 0 (omega arith), numbers-same q r d (suc j) l (λ i k. h (suc i) (omega arith)))
-
-noTriple : Triple
-noTriple = tripleForm .value []
 
 module _ {s : List ℕ} (a : Accepted sheetLayout s) (k : Configuration) (e : Event) (p : length (e .values) ≡ commonOf s .programs) where
   arms-same : {t : Triple} → GoodTriple (commonOf s) t → armsAt s (conditionPlaces s) (k .main) (e .unit) (environment (e .values) [] []) t ≡ arms (sheetOf s) k e t

@@ -27,6 +27,7 @@ use Rattle.step.specs.Moves.{Configuration, seen, enabled, after, moved}
 use Rattle.step.specs.Calls.{Call, isEntry}
 use Rattle.step.specs.Verdicts.{causeOf, placed, verdict, ifThere}
 use Rattle.step.proofs.Lists.{Among, any-map, first-passes, kept-passes, least-some}
+use Rattle.step.proofs.Turns.{distinct-snoc}
 use Rattle.monitor.specs.Monitor.{Armed, State, fresh, tripleIn, fails, failing, ofNumber, armedBy, entered, exited, refusal, offered, offer}
 use Rattle.monitor.specs.Sound.{callSound, verdictSound, sound}
 use Rattle.monitor.specs.Demand.{Taken, begun, more}
@@ -169,26 +170,8 @@ exited-sound {s} a σ e h =
     (verdict-sound (sheetOf s) _ (σ .position + 1) _ (failing-there (sheetOf s) (σ .configuration) e (σ .calls) k))))))
 
 -- One more number, that is not among them.
-any-more : {A : Type 0} (p : A → Bool) (l : List A) (x : A) → any p l ≡ false → p x ≡ false → any p (l ++ x ∷ []) ≡ false
-unfolding any
-any-more p [] x h k = rw k
-any-more p (y ∷ l) x h k = go (p y) h (λ i. any-more p l x i k)
-  where
-    go : (b : Bool) → cond b true (any p l) ≡ false → (any p l ≡ false → any p (l ++ x ∷ []) ≡ false) → cond b true (any p (l ++ x ∷ [])) ≡ false
-    go true i f = i
-    go false i f = f i
-
 distinct-more : (l : List ℕ) (n : ℕ) → distinct l ≡ true → any (λ m. eqb m n) l ≡ false → distinct (l ++ n ∷ []) ≡ true
-unfolding distinct any
-distinct-more [] n h k = refl
-distinct-more (m ∷ l) n h k =
-    let (i, j) = simp (and-iff, not-iff) at h in
-    go (eqb m n) refl k i j (distinct-more l n j)
-  where
-    go : (b : Bool) → eqb m n ≡ b → cond b true (any (λ m. eqb m n) l) ≡ false → any (eqb m) l ≡ false → distinct l ≡ true
-        → (any (λ m. eqb m n) l ≡ false → distinct (l ++ n ∷ []) ≡ true) → (not (any (eqb m) (l ++ n ∷ [])) && distinct (l ++ n ∷ [])) ≡ true
-    go true e k i j f = absurd (false≢true (sym k))
-    go false e k i j f = rw (any-more (eqb m) l n i e) (f k)
+distinct-more l n h k = distinct-snoc l n ∙ rw (h, k)
 
 -- An entry that is taken keeps a sound state sound.
 module _ {s : List ℕ} (a : Accepted sheetLayout s) (σ : State) (e : Event) where

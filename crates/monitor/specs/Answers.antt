@@ -4,7 +4,7 @@ use Prim.Native.Nat.{ℕ, zero, suc}
 use lib.ListN.{length}
 use Rattle.sheet.specs.Bytes.{byte}
 use Rattle.sheet.specs.Decode.{sheetOf}
-use Rattle.sheet.specs.Reading.{unless, reading, sheetLayout}
+use Rattle.sheet.specs.Reading.{unless, orElse, reading, sheetLayout}
 use Rattle.sheet.specs.Log.{Event, logReading, eventsOf}
 use Rattle.step.specs.declared.RunAnswer.{RunAnswer}
 use Rattle.step.specs.declared.RunAnswer.the-variants as run
@@ -13,11 +13,6 @@ use Rattle.monitor.specs.declared.WatchState.{WatchState}
 use Rattle.monitor.specs.declared.Offered.{Offered}
 use Rattle.monitor.specs.Monitor as Monitor
 use Rattle.monitor.specs.Padded.{pad, view, soundState}
-
--- the first of two numbers that is not 0
-abbrev pub orElse : ℕ → ℕ → ℕ
-orElse zero m = m
-orElse (suc n) m = suc n
 
 -- "One event ..: its reading refusals; 9: state not sound; 10: .. 15"; 0 where it is taken
 unfoldable pub offerRefusal : List ℕ → WatchState → Event → ℕ

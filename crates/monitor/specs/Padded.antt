@@ -58,13 +58,14 @@ view S w =
       verdict = verdictIn (w .outcome);
     }
 
--- "unused places and variables are zero"
+-- nothing armed; at most four armed, and zeros behind them
 abbrev pub isZeroArms : Arms → Bool
 isZeroArms a = eqb (a .count) 0 && clear 0 (a .triples)
 
 abbrev pub tidyArms : Arms → Bool
 tidyArms a = leb (a .count) 4 && padded 4 (a .count) (a .triples)
 
+-- "unused places and variables are zero"; the lengths are those of the code's types, which a list does not know
 unfoldable pub tidy : Sheet → WatchState → Bool
 tidy S w =
     padded 4 (S .common .monitors) (w .variables) && (eqb (length (w .calls)) 16 && (eqb (length (w .arms)) 16

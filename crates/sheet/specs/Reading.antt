@@ -2,7 +2,7 @@
 -- input, or 0. One definition over a description of the layout.
 use mathlib.Core.Bool.{Bool, true, false, not, cond, _&&_}
 use mathlib.Core.List.{List, [], _∷_, map}
-use Prim.Native.Nat.{ℕ, suc, _/_, _%_, _^_}
+use Prim.Native.Nat.{ℕ, zero, suc, _/_, _%_, _^_}
 use lib.Dec.{leb, ltb, eqb}
 use lib.ListN.{length, getD}
 use Rattle.condition.specs.declared.Lent.{Lent}
@@ -112,6 +112,11 @@ ranged F C ts rs = every (F .transitionRanged C rs) ts && every (F .lastRanged C
 abbrev pub unless : Bool → ℕ → ℕ → ℕ
 unless true n rest = rest
 unless false n rest = n
+
+-- the first of two numbers that is not 0
+abbrev pub orElse : ℕ → ℕ → ℕ
+orElse zero m = m
+orElse (suc n) m = suc n
 
 abbrev pub transitionsOf : {T R : Type 0} → Layout T R → List ℕ → List T
 transitionsOf F s = table (F .transition) (transitionsIn s) s (transitionsAt s)

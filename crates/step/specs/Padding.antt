@@ -18,7 +18,7 @@ padCall c = record { number = c .number; unit = c .unit; kept = fit 8 0 (c .kept
 unfoldable pub clear : ℕ → List ℕ → Bool
 clear n l = every (λ x. eqb x 0) (drop n l)
 
--- an array of so many places, with zeros from one on
+-- zeros from a place on, in an array of so many places: the type of the code has that length, a list does not know it
 abbrev pub padded : ℕ → ℕ → List ℕ → Bool
 padded size n l = eqb (length l) size && clear n l
 

@@ -5,7 +5,7 @@ use lib.Dec.{leb}
 use lib.ListN.{length, drop}
 use Rattle.sheet.specs.Decode.{sheetOf}
 use Rattle.sheet.specs.Encode.{encode}
-use Rattle.sheet.specs.Reading.{unless, reading, sheetLayout}
+use Rattle.sheet.specs.Reading.{unless, orElse, reading, sheetLayout}
 use Rattle.translation.specs.declared.Translated.{Translated}
 use Rattle.translation.specs.declared.Translated.the-variants.{Written, Refused}
 use Rattle.translation.specs.Translate.{translate}
@@ -13,10 +13,6 @@ use Rattle.translation.specs.Translate.{translate}
 -- the bytes of a sheet's network
 unfoldable pub networkBytes : List ℕ → List ℕ
 networkBytes s = encode (translate (sheetOf s))
-
-abbrev pub orElse : ℕ → ℕ → ℕ
-orElse zero m = m
-orElse (suc n) m = suc n
 
 -- "Translating: the reading refusals; 19: the buffer is shorter than the network."
 unfoldable pub translateRefusal : List ℕ → List ℕ → ℕ
