@@ -1,7 +1,7 @@
 -- From the definition of one event to what offering it answers. Assumes nothing.
 use mathlib.Core.Path.{_≡_, refl, sym, ap, _∙_}
 use mathlib.Core.Bool.{Bool, true, false, false≢true}
-use mathlib.Core.List.{List, [], _∷_, map}
+use mathlib.Core.List.{List, map}
 use Prim.Native.Nat.{ℕ, zero, suc}
 use native.Mathlib.Omega.{arith}
 use borrow.Author.Tests.{eq-eqb, ne-eqb}
@@ -12,7 +12,6 @@ use Rattle.sheet.specs.declared.LogReading.{LogReading}
 use Rattle.sheet.specs.declared.LogReading.the-variants as log
 use Rattle.sheet.specs.declared.Reading.{Reading}
 use Rattle.sheet.specs.declared.Reading.the-variants.{Accepted, Refused}
-use Rattle.sheet.specs.Table.{fit}
 use Rattle.sheet.specs.Decode.{commonOf, sheetOf}
 use Rattle.sheet.specs.Reading.{reading, sheetLayout}
 use Rattle.sheet.specs.Bytes.{byte}
@@ -25,7 +24,7 @@ use Rattle.step.specs.declared.RunAnswer.{RunAnswer}
 use Rattle.step.specs.declared.RunAnswer.the-variants as run
 use Rattle.step.specs.Calls as Calls
 use Rattle.step.specs.Calls.{refusalsFor, refusals, lowest}
-use Rattle.step.specs.Verdicts.{verdictIn}
+use Rattle.step.specs.Verdicts.{isJudged, verdictIn}
 use Rattle.step.specs.Walk.{unpad, eventOf}
 use Rattle.monitor.specs.declared.WatchState.{WatchState}
 use Rattle.monitor.specs.declared.Offered.{Offered}
@@ -33,19 +32,14 @@ use Rattle.monitor.specs.declared.event.Tables.{Tables}
 use Rattle.monitor.specs.Monitor as Monitor
 use Rattle.monitor.specs.Padded.{zeroArms, pad, view, soundState}
 use Rattle.step.specs.Padding.{zeroCall}
-use Rattle.step.specs.Answers.{answerOf}
-use Rattle.monitor.specs.Answers.{offerRefusal, whenTaken, offerOf, ranAnswer, unlessRefused, runOf}
+use Rattle.step.specs.Answers.{answerOf, unlessRefused}
+use Rattle.step.proofs.Rooms.{length-fit}
+use Rattle.monitor.specs.Answers.{offerRefusal, whenTaken, offerOf, ranAnswer, runOf}
 use Rattle.monitor.specs.Walk.{Prepared, Ready}
 use Rattle.monitor.proofs.Calls.{free, offer-taken}
 use Rattle.monitor.proofs.Views.{view-calls}
 
 -- the two rows of a sound state have the same length
-length-fit : {A : Type 0} (n : ℕ) (d : A) (l : List A) → length (fit n d l) ≡ n
-unfolding fit
-length-fit zero d l = refl
-length-fit (suc n) d [] = ap suc (length-fit n d [])
-length-fit (suc n) d (x ∷ l) = ap suc (length-fit n d l)
-
 ready-rows : {s : List ℕ} {w : WatchState} → Ready s w → length (w .calls) ≡ length (w .arms)
 unfolding pad
 ready-rows {s} {w} r =
@@ -55,14 +49,14 @@ ready-rows {s} {w} r =
 
 -- The refusals of an event, from the calls of a state.
 pub refusal-there : {s : List ℕ} {t : Tables} {c : List ℕ} (p : Prepared s t c) (w : WatchState) → Ready s w → (event : Record) (values : List ℕ)
-    → (b : Bool) → b ≡ Monitor.isJudged (verdictIn (w .outcome)) → (n : ℕ) → n ≡ w .opened
+    → (b : Bool) → b ≡ isJudged (verdictIn (w .outcome)) → (n : ℕ) → n ≡ w .opened
     → (x : ℕ) → x ≡ lowest (refusalsFor (t .header .units) (t .header .programs) b (w .position) (map (unpad (t .header .programs)) (take n (w .calls))) (eventOf event values))
     → x ≡ Monitor.refusal (sheetOf s) (view (sheetOf s) w) (eventOf event values)
 unfolding Monitor.refusal refusals view sheetOf commonOf
 refusal-there {s} p w r event values b eb n en x ex =
     let long = ready-rows r in
     let P = commonOf s .programs in
-    let same = ap (λ (l : List Calls.Call). lowest (refusalsFor (commonOf s .units) P (Monitor.isJudged (verdictIn (w .outcome))) (w .position) l (eventOf event values))) (view-calls (sheetOf s) w long) in
+    let same = ap (λ (l : List Calls.Call). lowest (refusalsFor (commonOf s .units) P (isJudged (verdictIn (w .outcome))) (w .position) l (eventOf event values))) (view-calls (sheetOf s) w long) in
     ex ∙ rw (eb, en, p .tables) (sym same)
 
 -- A taken event is an entry or an exit.

@@ -1,6 +1,6 @@
 -- The triples armed at an entry: in rising order, at most four, of one state and unit. Assumes nothing.
 use mathlib.Core.Path.{_≡_, refl, sym, ap, _∙_}
-use mathlib.Core.Logic.{inl, inr}
+use mathlib.Core.Logic.{inl}
 use mathlib.Core.Bool.{Bool, true, false, cond, _&&_, false≢true}
 use mathlib.Core.List.{List, [], _∷_}
 use Prim.Native.Nat.{ℕ, suc, _≤_, _<_}
@@ -20,14 +20,10 @@ use Rattle.sheet.proofs.Tests.{and-iff, eqb-iff}
 use Rattle.step.specs.Lists.{numbers}
 use Rattle.step.specs.Moves.{Configuration}
 use Rattle.step.proofs.Lists.{Among}
+use Rattle.step.proofs.Keeping.{among-every}
 use Rattle.monitor.specs.Monitor.{arms, armedBy, tripleIn}
 use Rattle.monitor.specs.Sound.{rising, ofOneState}
 use Rattle.monitor.proofs.Broken.{noTriple, armed-there}
-
-pub among-every : {A : Type 0} (p : A → Bool) (l : List A) → ((x : A) → Among x l → p x ≡ true) → every p l ≡ true
-unfolding every
-among-every p [] h = refl
-among-every p (x ∷ l) h = and-both (h x (inl refl)) (among-every p l (λ y m. h y (inr m)))
 
 module _ {A : Type 0} (p : A → Bool) where
   above : (n i : ℕ) → n < i → (l : List A) → every (ltb n) (numbers p i l) ≡ true

@@ -4,51 +4,34 @@ use mathlib.Core.Logic.{_⊎_, inl, inr, _↔_}
 use mathlib.Core.Bool.{Bool, true, false, not, cond, _&&_, false≢true}
 use mathlib.Core.Option.{Option, none, some}
 use mathlib.Core.List.{List, [], _∷_, _++_, map, append-nil}
-use Prim.Native.Nat.{ℕ, _≤_, _<_}
+use Prim.Native.Nat.{ℕ, _≤_}
 use native.Mathlib.Omega.{arith}
-use lib.Dec.{eqb, leb}
+use lib.Dec.{eqb}
 use lib.ListN.{length, length-append}
 use borrow.Author.Tests.{eqb-true, eqb-false, eq-eqb, ne-eqb, not-false}
 use Rattle.sheet.specs.Parts.{Sheet}
 use Rattle.sheet.specs.Table.{every}
 use Rattle.sheet.specs.Log.{Event}
-use Rattle.sheet.proofs.Tests.{and-iff, leb-iff, eqb-iff}
 use Rattle.sheet.proofs.Tables.{and-parts}
 use Rattle.step.specs.declared.Verdict.{Verdict}
 use Rattle.step.specs.Lists.{first, keep, any}
 use Rattle.step.specs.Moves.{Configuration}
-use Rattle.step.specs.Calls.{isEntry, isExit, mostCalls, lastPosition, openNumber, openFor, refusals, lowest}
+use Rattle.step.specs.Calls.{isEntry, openFor}
+use Rattle.step.specs.Verdicts.{isJudged}
+use Rattle.step.proofs.Refusing as Refusing
 use Rattle.step.proofs.Lists.{none-some, headOf, first-keep, keep-append, keep-none, keep-again, keep-without, any-keep, any-map}
-use Rattle.monitor.specs.Monitor.{Armed, State, initial, fresh, ofNumber, entered, exited, isJudged, refusal, offer}
+use Rattle.monitor.specs.Monitor.{Armed, State, initial, fresh, ofNumber, entered, exited, refusal, offer}
 use Rattle.monitor.specs.Published.{shift, reached}
 use Rattle.monitor.specs.Demand.{Taken, begun, more}
 use Rattle.monitor.proofs.Traces.{opening, next, callOf, another, Opened, shift-snoc, call-snoc, opened-call, call-opened}
 
 -- An event that is refused for no reason.
-pub record Free (S : Sheet) (σ : State) (e : Event) : Type 0 where
-  pub unjudged : isJudged (σ .verdict) ≡ false
-  pub kind : e .kind ≤ 1
-  pub unit : e .unit < S .common .units
-  pub values : length (e .values) ≡ S .common .programs
-  pub notLast : eqb (σ .position) lastPosition ≡ false
-  pub notOpen : (isEntry e && openNumber (e .number) (map (λ a. a .call) (σ .calls))) ≡ false
-  pub room : (isEntry e && leb mostCalls (length (map (λ a. a .call) (σ .calls)))) ≡ false
-  pub isOpen : (isExit e && not (openFor e (map (λ a. a .call) (σ .calls)))) ≡ false
-
-cond-iff : (b : Bool) (n rest : ℕ) → eqb n 0 ≡ false → cond b n rest ≡ 0 ↔ (b ≡ false) × (rest ≡ 0)
-cond-iff true n rest h = (λ e. absurd (eqb-false n 0 h e), λ p. absurd (false≢true (sym (p .0))))
-cond-iff false n rest h = (λ e. (refl, e), λ p. p .1)
-
-not-false-iff : (b : Bool) → not b ≡ false ↔ b ≡ true
-not-false-iff true = (λ _. refl, λ _. refl)
-not-false-iff false = (λ e. absurd (false≢true (sym e)), λ e. absurd (false≢true e))
+abbrev pub Free : Sheet → State → Event → Type 0
+Free S σ e = Refusing.Free (S .common) (isJudged (σ .verdict)) (σ .position) (map (λ (a : Armed). a .call) (σ .calls)) e
 
 pub free : (S : Sheet) (σ : State) (e : Event) → refusal S σ e ≡ 0 → Free S σ e
-unfolding refusal refusals lowest
-free S σ e h =
-    let (a, (b, (c, (d, (f, (g, z)))))) = simp cond-iff at h in
-    let (k, (u, v)) = simp (not-false-iff, and-iff, leb-iff, eqb-iff) at b in
-    record { unjudged = a; kind = k; unit = u; values = v; notLast = c; notOpen = d; room = f; isOpen = g }
+unfolding refusal
+free S σ e h = Refusing.free (S .common) (isJudged (σ .verdict)) (σ .position) (map (λ (a : Armed). a .call) (σ .calls)) e h
 
 unjudged-none : (o : Option Verdict) → isJudged o ≡ false → o ≡ none
 unjudged-none none h = refl

@@ -1,25 +1,24 @@
--- The triples that an entry arms, and the lowest that fails at an exit, as the loops find them. Assumes nothing.
+-- The triples that an entry arms, as the loop finds them, and whether one fails at an exit. Assumes nothing.
 use mathlib.Core.Path.{_≡_, ap, _∙_}
 use mathlib.Core.Bool.{Bool, true, false, not, _&&_}
 use mathlib.Core.List.{List, _∷_}
-use Prim.Native.Nat.{ℕ, suc, _+_, _-_, _*_, min, _≤_, _<_}
+use Prim.Native.Nat.{ℕ, suc, _+_, _-_, _*_, _≤_, _<_}
 use native.Mathlib.Nat.{sub-zero}
 use native.Mathlib.Numerals.{add-one}
 use native.Mathlib.Omega.{arith}
 use lib.Dec.{eqb}
-use lib.ListN.{length, getD, set, take, drop, replicate, length-take}
-use lib.Seq.{getD-take}
+use lib.ListN.{length, set, drop, replicate}
 use Rattle.condition.specs.Meaning.{Environment}
 use Rattle.sheet.specs.declared.Triple.{Triple}
 use Rattle.sheet.specs.Table.{Form, records, table, fit}
 use Rattle.sheet.specs.Decode.{tripleForm}
 use Rattle.sheet.proofs.Tables.{table-step}
-use Rattle.step.specs.Lists.{keep, numbers}
+use Rattle.step.specs.Lists.{numbers}
 use Rattle.step.specs.Walk.{meetsAt}
-use Rattle.step.proofs.Filling.{Filling, filling-start, filling-store, filling-past, filling-end, keep-none-left, keep-here, keep-not-here}
+use Rattle.step.proofs.Filling.{Filling, filling-start, filling-store, filling-past, filling-end}
 use Rattle.monitor.specs.declared.Arms.{Arms}
 use Rattle.monitor.specs.Padded.{padArms}
-use Rattle.monitor.specs.Walk.{armsAt, failsAt, leastOf}
+use Rattle.monitor.specs.Walk.{armsAt, failsAt}
 
 module _ (s index : List ℕ) (state unit : ℕ) (E : Environment) (t u : Triple) (e : t ≡ u) where
   pub arms-there : (eqb (t .state) state && eqb (t .unit) unit) ≡ true → (b : Bool) → b ≡ meetsAt s index (t .precondition) E → b ≡ armsAt s index state unit E u
@@ -95,26 +94,3 @@ module _ {A : Type 0} (p : A → Bool) (F : Form A) (n : ℕ) (s : List ℕ) (at
       let e : out ≡ fit 4 0 whole = filling-end 4 0 whole out count _ (g .fill) (rw none) in
       let f : count ≡ length whole = omega (arith, rw none at (g .many)) in
       rw (e, f)
-
--- The least of those among the first `count` numbers of an array that pass a test, i of them seen.
-module _ (p : ℕ → Bool) (row : List ℕ) (count low i top : ℕ) (g : leastOf low (keep p (drop i (take count row))) ≡ leastOf top (keep p (take count row))) where
-  ended : (k : ℕ) → count ≡ k → length (take count row) ≤ i → low ≡ leastOf top (keep p (take k row))
-  unfolding leastOf
-  ended k e h = rw (← e) (rw (keep-none-left p (take count row) i h) at g)
-
-  pub least-end : (k : ℕ) → count ≡ k → count ≤ i → low ≡ leastOf top (keep p (take k row))
-  least-end k e h = ended k e (omega (arith, length-take count row))
-
-  pub least-far : (k : ℕ) → count ≡ k → length row ≤ i → low ≡ leastOf top (keep p (take k row))
-  least-far k e h = ended k e (omega (arith, length-take count row))
-
-  module _ (d : ℕ) (h : i < count) (k : i < length row) where
-    there : i < length (take count row)
-    there = omega (arith, length-take count row)
-
-    pub least-here : p (getD row i d) ≡ true → leastOf (min low (getD row i d)) (keep p (drop (i + 1) (take count row))) ≡ leastOf top (keep p (take count row))
-    unfolding leastOf
-    least-here t = rw (add-one i) (rw (keep-here p (take count row) i d there (rw (getD-take count row i d h) t), getD-take count row i d h) at g)
-
-    pub least-not-here : p (getD row i d) ≡ false → leastOf low (keep p (drop (i + 1) (take count row))) ≡ leastOf top (keep p (take count row))
-    least-not-here t = rw (add-one i) (rw (keep-not-here p (take count row) i d there (rw (getD-take count row i d h) t)) at g)

@@ -2,8 +2,8 @@
 use mathlib.Core.Path.{_≡_, refl, sym, ap, _∙_}
 use mathlib.Core.Bool.{Bool}
 use mathlib.Core.Option.{none}
-use mathlib.Core.List.{List, [], _∷_, _++_, map, map-append}
-use Prim.Native.Nat.{ℕ, zero, suc, _+_, _<_}
+use mathlib.Core.List.{List, [], _∷_, _++_, map}
+use Prim.Native.Nat.{ℕ, suc, _+_, _<_}
 use native.Mathlib.Omega.{arith}
 use borrow.Author.Tests.{leb-false, eq-eqb}
 use lib.Dec.{eqb}
@@ -28,6 +28,7 @@ use Rattle.step.specs.Verdicts.{verdict, verdictFor, outcomeOf}
 use Rattle.step.specs.Padding.{zeroCall, padCall}
 use Rattle.step.specs.Walk.{eventOf, numberIn}
 use Rattle.step.proofs.Bridge.{conditionPlaces, before-meets}
+use Rattle.step.proofs.Rooms.{row-more}
 use Rattle.monitor.specs.declared.Arms.{Arms}
 use Rattle.monitor.specs.declared.WatchState.{WatchState}
 use Rattle.monitor.specs.declared.event.Tables.{Tables}
@@ -38,20 +39,6 @@ use Rattle.monitor.specs.Walk.{Prepared, Ready, movedFrom, movedTo, arms
 use Rattle.monitor.proofs.Broken.{noTriple}
 use Rattle.monitor.proofs.Calls.{Free, free}
 use Rattle.monitor.proofs.Moving.{moved-fits}
-
--- one more element behind those of an array
-set-fit : {A : Type 0} (d : A) (n : ℕ) (l : List A) (x : A) → length l < n → set (fit n d l) (length l) x ≡ fit n d (l ++ x ∷ [])
-unfolding fit
-set-fit d zero l x h = absurd (omega arith)
-set-fit d (suc n) [] x h = refl
-set-fit {A} d (suc n) (y ∷ l) x h = ap (λ (m : List A). y ∷ m) (set-fit d n l x (omega arith))
-
-pub row-more : {A B : Type 0} (f : B → A) (d : A) (size : ℕ) (row : List A) (l : List B) (x : B) (n : ℕ) (y : A) → fit size d (map f l) ≡ row → n ≡ length l → length l < size → y ≡ f x
-    → set row n y ≡ fit size d (map f (l ++ x ∷ []))
-row-more f d size row l x n y e g h k =
-    let long = length-map l f in
-    let there : n ≡ length (map f l) = omega arith in
-    rw (← e, there, k) (set-fit d size (map f l) (f x) (omega arith) ∙ ap (fit size d) (sym (map-append f l (x ∷ []))))
 
 -- The triples that the loop finds are those that the definition arms.
 numbers-same : {A : Type 0} (q r : A → Bool) (d : A) (j : ℕ) (l : List A) → ((i : ℕ) → i < length l → q (getD l i d) ≡ r (getD l i d)) → numbers q j l ≡ numbers r j l

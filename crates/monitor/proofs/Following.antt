@@ -24,6 +24,7 @@ use Rattle.step.specs.declared.Outcome.the-variants.{Open, Judged}
 use Rattle.step.specs.declared.RunAnswer.the-variants.{Violated, Clean, RefusedAt}
 use Rattle.step.specs.Verdicts.{outcomeOf, verdictIn}
 use Rattle.step.specs.Walk.{eventOf}
+use Rattle.step.proofs.Rooms.{take-fitted, verdict-outcome}
 use Rattle.monitor.specs.declared.WatchState.{WatchState}
 use Rattle.monitor.specs.Monitor.{State, Offered, Ran, fresh, refusal, offer, unlessJudged, unlessRefused, runFrom, run}
 use Rattle.monitor.specs.Sound.{sound}
@@ -32,7 +33,7 @@ use Rattle.monitor.specs.Answers.{ranAnswer}
 use Rattle.monitor.specs.declared.event.Tables.{Tables}
 use Rattle.monitor.specs.Walk.{Prepared, Ready}
 use Rattle.monitor.proofs.Soundness.{fresh-sound, offer-sound}
-use Rattle.monitor.proofs.Views.{take-fitted, verdict-outcome, view-back, ready-pad}
+use Rattle.monitor.proofs.Views.{view-back, ready-pad}
 
 -- A record of the log as an event: its first bytes, and P words behind them.
 pub event-there : (P : ℕ) → P ≤ 8 → (log : List ℕ) (at : ℕ) (r : Record) → r ≡ recordOf (drop at log) → (n : ℕ) → n ≡ P → (m : ℕ) → m ≡ P → (words : List ℕ) → words ≡ fit 8 0 (table wordForm m log (at + 4))

@@ -1,12 +1,11 @@
 -- An exit: the call's place, the triples judged there, and the state without the call. Assumes nothing.
 use mathlib.Core.Path.{_≡_, refl, sym, ap, ap₂, subst, _∙_}
-use mathlib.Core.Logic.{inl, inr}
-use mathlib.Core.Bool.{Bool, true, false, not, cond, _&&_, false≢true}
-use mathlib.Core.Option.{Option, none, some}
+use mathlib.Core.Bool.{Bool, true, false, not, cond, _&&_}
+use mathlib.Core.Option.{Option}
 use mathlib.Core.List.{List, [], _∷_, map}
-use Prim.Native.Nat.{ℕ, zero, suc, _+_, _-_, min, _≤_, _<_}
+use Prim.Native.Nat.{ℕ, _+_, _-_, _≤_, _<_}
 use native.Mathlib.Omega.{arith}
-use borrow.Author.Tests.{ltb-true, lt-ltb, eqb-true, eqb-false, eq-eqb, ne-eqb, not-false}
+use borrow.Author.Tests.{ltb-true, eq-eqb, not-false}
 use lib.Dec.{eqb, ltb}
 use lib.ListN.{length, getD, take, length-map}
 use lib.Seq.{getD-take}
@@ -19,138 +18,43 @@ use Rattle.sheet.specs.Reading.{lastOf, sheetLayout}
 use Rattle.sheet.specs.Log.{Event}
 use Rattle.sheet.proofs.Accepted.{Accepted, accepted, bounds, sheet-triple}
 use Rattle.sheet.proofs.Tables.{and-parts}
-use Rattle.sheet.proofs.Tests.{and-iff, leb-iff, eqb-iff, not-iff}
+use Rattle.sheet.proofs.Tests.{and-iff, leb-iff, eqb-iff}
 use Rattle.step.specs.declared.Call.{Call}
 use Rattle.step.specs.declared.Moved.{Moved}
 use Rattle.step.specs.declared.Outcome.{Outcome}
-use Rattle.step.specs.Lists.{first, keep, any, lesser, least, distinct}
+use Rattle.step.specs.Lists.{first, keep, any, least}
 use Rattle.step.specs.Moves.{Configuration}
 use Rattle.step.specs.Calls as Calls
 use Rattle.step.specs.Verdicts.{verdictFor, verdict, outcomeOf}
-use Rattle.step.specs.Walk.{meetsAt, placeOf, eventOf, numberIn}
+use Rattle.step.specs.Walk.{meetsAt, placeOf, leastOf, eventOf, numberIn}
 use Rattle.step.specs.Padding.{zeroCall, padCall}
-use Rattle.step.proofs.Lists.{Among, any-map, first-passes, kept-passes, least-some}
+use Rattle.step.proofs.Lists.{Among, any-map, first-passes, kept-passes}
 use Rattle.step.proofs.Searching.{any-place}
+use Rattle.step.proofs.Keeping.{every-among, keep-map, place-map, image-at, first-place, any-weaker, keep-same, one-fewer, number-least}
 use Rattle.step.proofs.Bridge.{conditionPlaces, after-meets}
+use Rattle.step.proofs.Rooms.{take-fit, take-fitted}
 use Rattle.monitor.specs.declared.Arms.{Arms}
 use Rattle.monitor.specs.declared.WatchState.{WatchState}
 use Rattle.monitor.specs.declared.event.Tables.{Tables}
 use Rattle.monitor.specs.Monitor.{Armed, State, tripleIn, fails, failing, ofNumber, exited, refusal}
 use Rattle.monitor.specs.Sound.{callSound, sound}
 use Rattle.monitor.specs.Padded.{zeroArms, padArms, pad, view}
-use Rattle.monitor.specs.Walk.{tablesOf, Prepared, Ready, movedTo, failsAt, leastOf, keepBeside}
+use Rattle.monitor.specs.Walk.{tablesOf, Prepared, Ready, movedTo, failsAt, keepBeside}
 use Rattle.monitor.proofs.Broken.{noTriple}
 use Rattle.monitor.proofs.Calls.{free}
-use Rattle.monitor.proofs.Soundness.{every-among}
 use Rattle.monitor.proofs.Moving.{moved-fits}
 use Rattle.monitor.proofs.Triples.{triple-there}
-use Rattle.monitor.proofs.Views.{take-fit, take-fitted}
 
--- Of a list's images: those that pass a test, what stands beside them, the place of the first, and the one at a place.
-module _ {A B : Type 0} (p : B → Bool) (f : A → B) where
-  keep-map : (l : List A) → keep p (map f l) ≡ map f (keep (λ x. p (f x)) l)
-  unfolding keep
-  keep-map [] = refl
-  keep-map (x ∷ l) = go (p (f x)) (keep-map l)
-    where
-      go : (b : Bool) → keep p (map f l) ≡ map f (keep (λ x. p (f x)) l) → cond b (f x ∷ keep p (map f l)) (keep p (map f l)) ≡ map f (cond b (x ∷ keep (λ x. p (f x)) l) (keep (λ x. p (f x)) l))
-      go true h = ap (λ (m : List B). f x ∷ m) h
-      go false h = h
-
-  beside-map : {C : Type 0} (g : A → C) (l : List A) → keepBeside p (map f l) (map g l) ≡ map g (keep (λ x. p (f x)) l)
-  unfolding keep keepBeside
-  beside-map g [] = refl
-  beside-map {C} g (x ∷ l) = go (p (f x)) (beside-map g l)
-    where
-      go : (b : Bool) → keepBeside p (map f l) (map g l) ≡ map g (keep (λ x. p (f x)) l)
-          → cond b (g x ∷ keepBeside p (map f l) (map g l)) (keepBeside p (map f l) (map g l)) ≡ map g (cond b (x ∷ keep (λ x. p (f x)) l) (keep (λ x. p (f x)) l))
-      go true h = ap (λ (m : List C). g x ∷ m) h
-      go false h = h
-
-  place-map : (l : List A) → placeOf p (map f l) ≡ placeOf (λ x. p (f x)) l
-  unfolding placeOf
-  place-map [] = refl
-  place-map (x ∷ l) = ap (λ n. cond (p (f x)) 0 (suc n)) (place-map l)
-
-image-at : {A B : Type 0} (f : A → B) (d : B) (e : A) (l : List A) (i : ℕ) → i < length l → getD (map f l) i d ≡ f (getD l i e)
-image-at f d e [] i h = absurd (omega arith)
-image-at f d e (x ∷ l) zero h = refl
-image-at f d e (x ∷ l) (suc i) h = image-at f d e l i (omega arith)
-
--- Of a list: the first that passes a test stands at its place; a weaker test is passed too; tests that agree on its elements keep the same.
-module _ {A : Type 0} (p : A → Bool) where
-  first-place : (d : A) (l : List A) → any p l ≡ true → first p l ≡ some (getD l (placeOf p l) d)
-  unfolding first any placeOf
-  first-place d [] h = absurd (false≢true h)
-  first-place d (x ∷ l) h = go (p x) h (first-place d l)
-    where
-      go : (b : Bool) → cond b true (any p l) ≡ true → (any p l ≡ true → first p l ≡ some (getD l (placeOf p l) d)) → cond b (some x) (first p l) ≡ some (getD (x ∷ l) (cond b 0 (suc (placeOf p l))) d)
-      go true h k = refl
-      go false h k = k h
-
-  any-weaker : (q : A → Bool) → ((x : A) → q x ≡ true → p x ≡ true) → (l : List A) → any q l ≡ true → any p l ≡ true
-  unfolding any
-  any-weaker q h [] e = e
-  any-weaker q h (x ∷ l) e = go (p x) (q x) (h x) e (any-weaker q h l)
-    where
-      go : (b c : Bool) → (c ≡ true → b ≡ true) → cond c true (any q l) ≡ true → (any q l ≡ true → any p l ≡ true) → cond b true (any p l) ≡ true
-      go true c i e k = refl
-      go false true i e k = absurd (false≢true (i refl))
-      go false false i e k = k e
-
-  keep-same : (q : A → Bool) (l : List A) → ((x : A) → Among x l → p x ≡ q x) → keep p l ≡ keep q l
-  unfolding keep
-  keep-same q [] h = refl
-  keep-same q (x ∷ l) h = rw (h x (inl refl), keep-same q l (λ y m. h y (inr m)))
-
--- Of different numbers all but one stay.
-module _ {A : Type 0} (f : A → ℕ) (n : ℕ) where
-  all-stay : (l : List A) → any (eqb n) (map f l) ≡ false → keep (λ a. not (eqb (f a) n)) l ≡ l
-  unfolding any keep
-  all-stay [] h = refl
-  all-stay (x ∷ l) h = go (eqb n (f x)) refl h (all-stay l)
-    where
-      go : (b : Bool) → eqb n (f x) ≡ b → cond b true (any (eqb n) (map f l)) ≡ false → (any (eqb n) (map f l) ≡ false → keep (λ a. not (eqb (f a) n)) l ≡ l)
-          → cond (not (eqb (f x) n)) (x ∷ keep (λ a. not (eqb (f a) n)) l) (keep (λ a. not (eqb (f a) n)) l) ≡ x ∷ l
-      go true e h k = absurd (false≢true (sym h))
-      go false e h k = rw (ne-eqb (f x) n (λ q. eqb-false n (f x) e (sym q))) (ap (λ (r : List A). x ∷ r) (k h))
-
-  one-fewer : (l : List A) → distinct (map f l) ≡ true → any (λ a. eqb (f a) n) l ≡ true → suc (length (keep (λ a. not (eqb (f a) n)) l)) ≡ length l
-  unfolding any keep distinct
-  one-fewer [] d h = absurd (false≢true h)
-  one-fewer (x ∷ l) d h =
-      let (i, j) = simp (and-iff, not-iff) at d in
-      go (eqb (f x) n) refl h i (one-fewer l j)
-    where
-      go : (b : Bool) → eqb (f x) n ≡ b → cond b true (any (λ a. eqb (f a) n) l) ≡ true → any (eqb (f x)) (map f l) ≡ false
-          → (any (λ a. eqb (f a) n) l ≡ true → suc (length (keep (λ a. not (eqb (f a) n)) l)) ≡ length l)
-          → suc (length (cond (not b) (x ∷ keep (λ a. not (eqb (f a) n)) l) (keep (λ a. not (eqb (f a) n)) l))) ≡ suc (length l)
-      go true e h i k = ap (λ (r : List A). suc (length r)) (all-stay l (subst (λ m. any (eqb m) (map f l) ≡ false) (eqb-true (f x) n e) i))
-      go false e h i k = ap suc (k h)
-
--- The least of some bytes, by a number past them.
-abbrev under : ℕ → Option ℕ → ℕ
-under n none = n
-under n (some m) = min n m
-
-least-under : (n : ℕ) (l : List ℕ) → leastOf n l ≡ under n (least l)
-unfolding leastOf least
-least-under n [] = refl
-least-under n (m ∷ l) = least-under (min n m) l ∙ go (least l)
+-- What stands beside those of a list's images that pass a test.
+beside-map : {A B C : Type 0} (p : B → Bool) (f : A → B) (g : A → C) (l : List A) → keepBeside p (map f l) (map g l) ≡ map g (keep (λ x. p (f x)) l)
+unfolding keep keepBeside
+beside-map p f g [] = refl
+beside-map {C} p f g (x ∷ l) = go (p (f x)) (beside-map p f g l)
   where
-    go : (o : Option ℕ) → under (min n m) o ≡ under n (lesser m o)
-    go none = refl
-    go (some k) = omega arith
-
-number-under : (o : Option ℕ) → ((m : ℕ) → o ≡ some m → m < 256) → numberIn (under 256 o) ≡ o
-number-under none h = refl
-number-under (some m) h =
-    let low = h m refl in
-    let e : min 256 m ≡ m = omega arith in
-    rw (e, lt-ltb m 256 low)
-
-number-least : (l : List ℕ) → ((m : ℕ) → Among m l → m < 256) → numberIn (leastOf 256 l) ≡ least l
-number-least l h = ap numberIn (least-under 256 l) ∙ number-under (least l) (λ m e. h m (least-some l m e .0))
+    go : (b : Bool) → keepBeside p (map f l) (map g l) ≡ map g (keep (λ x. p (f x)) l)
+        → cond b (g x ∷ keepBeside p (map f l) (map g l)) (keepBeside p (map f l) (map g l)) ≡ map g (cond b (x ∷ keep (λ x. p (f x)) l) (keep (λ x. p (f x)) l))
+    go true h = ap (λ (m : List C). g x ∷ m) h
+    go false h = h
 
 -- The calls of a state and what is armed for them, as the arrays hold them.
 abbrev noArmed : Armed

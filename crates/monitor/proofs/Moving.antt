@@ -1,12 +1,10 @@
 -- Taking a transition of an accepted sheet, and where its tables begin. Assumes nothing.
-use mathlib.Core.Path.{_≡_, refl, sym, ap, subst, _∙_}
-use mathlib.Core.Bool.{Bool, true, false}
+use mathlib.Core.Path.{_≡_, sym, ap, subst, _∙_}
+use mathlib.Core.Bool.{false}
 use mathlib.Core.Option.{Option}
 use mathlib.Core.List.{List, [], _++_}
 use Prim.Native.Nat.{ℕ, _+_, _≤_, _<_}
 use native.Mathlib.Omega.{arith}
-use borrow.Author.Tests.{ltb-true, ltb-false, eqb-false}
-use lib.Dec.{eqb, ltb}
 use lib.ListN.{length, take, drop, take-append-drop}
 use lib.Seq.{length-take-le}
 use Rattle.condition.specs.Meaning.{environment}
@@ -30,15 +28,17 @@ use Rattle.step.specs.Lists.{first}
 use Rattle.step.specs.Moves.{Configuration, enabled, after, moved}
 use Rattle.step.specs.Walk.{enabledAt, baseForm, firstPlace, eventOf, movedAt}
 use Rattle.step.proofs.Lists.{first-passes}
+use Rattle.step.proofs.Refusing.{below-last}
 use Rattle.step.proofs.Bridge.{actionPlaces, foundAt, action-acts, first-enabled-sheet}
+use Rattle.step.proofs.Keeping.{among-at}
+use Rattle.step.proofs.Rooms.{take-fitted, behind-fit}
 use Rattle.monitor.specs.declared.event.Tables.{Tables}
 use Rattle.monitor.specs.declared.WatchState.{WatchState}
 use Rattle.monitor.specs.Monitor.{refusal}
 use Rattle.monitor.specs.Padded.{view}
 use Rattle.monitor.specs.Walk.{Prepared, actionsOf, movedTo}
 use Rattle.monitor.proofs.Calls.{free}
-use Rattle.monitor.proofs.Soundness.{among-at, moved-variables}
-use Rattle.monitor.proofs.Views.{take-fitted, behind-fit}
+use Rattle.monitor.proofs.Soundness.{moved-variables}
 
 -- the state and the variables without what stands behind them, and what a transition makes of them with it
 abbrev held : List ℕ → ℕ → List ℕ → Configuration
@@ -121,16 +121,6 @@ moved-fits {s} a k e v =
     ap first (take-fitted 0 4 many (k .variables) v few) ∙ ap then behind
 
 -- An event that is not refused has a position to come.
-below-last : (n : ℕ) → n < 4294967296 → eqb n 4294967295 ≡ false → n + 1 < 4294967296
-below-last n h e = go (ltb n 4294967295) refl
-  where
-    go : (b : Bool) → ltb n 4294967295 ≡ b → n + 1 < 4294967296
-    go true q = omega (arith, ltb-true n 4294967295 q)
-    go false q =
-        let k = ltb-false n 4294967295 q in
-        let same : n ≡ 4294967295 = omega arith in
-        absurd (eqb-false n 4294967295 e same)
-
 pub position-fits : (S : Sheet) (w : WatchState) (e : Event) → refusal S (view S w) e ≡ 0 → w .position < 4294967296 → w .position + 1 < 4294967296
 unfolding view
 position-fits S w e z h = below-last (w .position) h (free S (view S w) e z .notLast)

@@ -1,10 +1,9 @@
 -- Which states are sound. Assumes nothing.
 use mathlib.Core.Path.{_≡_, refl, sym, ap, _∙_}
-use mathlib.Core.Logic.{inl, inr}
-use mathlib.Core.Bool.{Bool, true, false, not, cond, _&&_, false≢true}
+use mathlib.Core.Bool.{Bool, true, false, not, cond, _&&_}
 use mathlib.Core.Option.{Option, none, some}
 use mathlib.Core.List.{List, [], _∷_, _++_, map, map-append}
-use Prim.Native.Nat.{ℕ, zero, suc, _+_, _≤_, _<_}
+use Prim.Native.Nat.{ℕ, zero, suc, _+_, _<_}
 use native.Mathlib.Omega.{arith}
 use borrow.Author.Tests.{eq-eqb, lt-ltb, le-leb, leb-false}
 use lib.Dec.{eqb, ltb}
@@ -20,19 +19,19 @@ use Rattle.sheet.specs.Reading.{isBad, lentIn, transitionsOf, sheetLayout}
 use Rattle.sheet.specs.Log.{Event}
 use Rattle.sheet.proofs.Accepted.{Accepted, bounds, sheet-transition}
 use Rattle.sheet.proofs.Tables.{and-parts, and-both, every-append}
-use Rattle.sheet.proofs.Tests.{and-iff, leb-iff, eqb-iff, not-iff}
+use Rattle.sheet.proofs.Tests.{and-iff, leb-iff, eqb-iff}
 use Rattle.step.specs.Lists.{first, keep, any, least, distinct}
 use Rattle.step.specs.Meets.{acted, performedBy}
 use Rattle.step.specs.Moves.{Configuration, seen, enabled, after, moved}
 use Rattle.step.specs.Calls.{Call, isEntry}
 use Rattle.step.specs.Verdicts.{causeOf, placed, verdict, ifThere}
-use Rattle.step.proofs.Lists.{Among, any-map, first-passes, kept-passes, least-some}
-use Rattle.step.proofs.Turns.{distinct-snoc}
+use Rattle.step.proofs.Lists.{any-map, first-passes, kept-passes, least-some}
+use Rattle.step.proofs.Keeping.{every-among, among-every, among-at, every-keep, length-keep, distinct-keep, distinct-more}
 use Rattle.monitor.specs.Monitor.{Armed, State, fresh, tripleIn, fails, failing, ofNumber, armedBy, entered, exited, refusal, offered, offer}
 use Rattle.monitor.specs.Sound.{callSound, verdictSound, sound}
 use Rattle.monitor.specs.Demand.{Taken, begun, more}
 use Rattle.monitor.proofs.Calls.{free}
-use Rattle.monitor.proofs.Arming.{among-every, armed-of, armed-rising, armed-one-state, armed-few}
+use Rattle.monitor.proofs.Arming.{armed-of, armed-rising, armed-one-state, armed-few}
 
 -- "A fresh state is defined for every accepted sheet": it is sound
 pub fresh-sound : {s : List ℕ} → Accepted sheetLayout s → sound (sheetOf s) (fresh (sheetOf s)) ≡ true
@@ -41,56 +40,6 @@ fresh-sound {s} a =
     let b = bounds a in
     let C = commonOf s in
     rw (lt-ltb (C .start) (C .states) (b .start), eq-eqb _ (C .monitors) (b .initial), b .startGood)
-
--- What holds of all elements holds of one, and of those that are kept.
-pub every-among : {A : Type 0} (p : A → Bool) (l : List A) (x : A) → every p l ≡ true → Among x l → p x ≡ true
-unfolding every
-every-among p [] x h m = absurd m
-every-among p (y ∷ l) x h (inl e) = ap p e ∙ and-parts (p y) (every p l) h .0
-every-among p (y ∷ l) x h (inr m) = every-among p l x (and-parts (p y) (every p l) h .1) m
-
-module _ {A : Type 0} (q : A → Bool) where
-  every-keep : (p : A → Bool) (l : List A) → every p l ≡ true → every p (keep q l) ≡ true
-  unfolding every keep
-  every-keep p [] h = h
-  every-keep p (x ∷ l) h = go (q x) (and-parts (p x) (every p l) h .0) (every-keep p l (and-parts (p x) (every p l) h .1))
-    where
-      go : (b : Bool) → p x ≡ true → every p (keep q l) ≡ true → every p (cond b (x ∷ keep q l) (keep q l)) ≡ true
-      go true i j = and-both i j
-      go false i j = j
-
-  length-keep : (l : List A) → length (keep q l) ≤ length l
-  unfolding keep
-  length-keep [] = omega arith
-  length-keep (x ∷ l) = go (q x) (length-keep l)
-    where
-      go : (b : Bool) → length (keep q l) ≤ length l → length (cond b (x ∷ keep q l) (keep q l)) ≤ suc (length l)
-      go true h = omega arith
-      go false h = omega arith
-
-  any-fewer : (p : A → Bool) (l : List A) → any p l ≡ false → any p (keep q l) ≡ false
-  unfolding any keep
-  any-fewer p [] h = h
-  any-fewer p (x ∷ l) h = go (q x) (p x) refl h (any-fewer p l)
-    where
-      go : (b c : Bool) → p x ≡ c → cond c true (any p l) ≡ false → (any p l ≡ false → any p (keep q l) ≡ false) → any p (cond b (x ∷ keep q l) (keep q l)) ≡ false
-      go b true e k f = absurd (false≢true (sym k))
-      go true false e k f = rw e (f k)
-      go false false e k f = f k
-
--- different numbers stay different
-distinct-keep : (q : Armed → Bool) (l : List Armed) → distinct (map (λ (a : Armed). a .call .number) l) ≡ true → distinct (map (λ (a : Armed). a .call .number) (keep q l)) ≡ true
-unfolding distinct keep
-distinct-keep q [] h = h
-distinct-keep q (x ∷ l) h =
-    let (i, j) = simp (and-iff, not-iff) at h in
-    let m = any-map (eqb (x .call .number)) (λ (a : Armed). a .call .number) in
-    go (q x) (m (keep q l) ∙ any-fewer q (λ (a : Armed). eqb (x .call .number) (a .call .number)) l (sym (m l) ∙ i)) (distinct-keep q l j)
-  where
-    go : (b : Bool) → any (eqb (x .call .number)) (map (λ (a : Armed). a .call .number) (keep q l)) ≡ false → distinct (map (λ (a : Armed). a .call .number) (keep q l)) ≡ true
-        → distinct (map (λ (a : Armed). a .call .number) (cond b (x ∷ keep q l) (keep q l))) ≡ true
-    go true i j = rw (i, j)
-    go false i j = j
 
 -- A transition leads to a state below Q, and there are as many variables as before.
 length-performed : (r : List Assignment) (E : Environment) → length (performed r E) ≡ length (E .monitors)
@@ -101,11 +50,6 @@ length-performed (a ∷ r) E = length-performed r (assigned a E) ∙ length-set 
 length-acted : (o : Option (List Assignment)) (E : Environment) → length (performedBy o E) ≡ length (E .monitors)
 length-acted none E = refl
 length-acted (some r) E = length-performed r E
-
-pub among-at : {A : Type 0} (d : A) (l : List A) (x : A) → Among x l → (i : ℕ) × (i < length l) × (getD l i d ≡ x)
-among-at d [] x m = absurd m
-among-at d (y ∷ l) x (inl e) = (0, omega arith, sym e)
-among-at d (y ∷ l) x (inr m) = let (i, h, e) = among-at d l x m in (suc i, omega arith, e)
 
 module _ {s : List ℕ} (a : Accepted sheetLayout s) (k : Configuration) (e : Event) where
   pub moved-main : k .main < commonOf s .states → moved (commonOf s) (transitionsOf sheetLayout s) k e .main < commonOf s .states
@@ -165,13 +109,9 @@ exited-sound {s} a σ e h =
     and-both (lt-ltb _ _ (moved-main a (σ .configuration) e m))
     (and-both (eq-eqb _ _ (moved-variables a (σ .configuration) e ∙ v))
     (and-both (le-leb (length (keep q (σ .calls))) 16 (omega arith))
-    (and-both (distinct-keep q (σ .calls) d)
+    (and-both (distinct-keep (λ (b : Armed). b .call .number) q (σ .calls) d)
     (and-both (every-keep q (callSound (sheetOf s)) (σ .calls) k)
     (verdict-sound (sheetOf s) _ (σ .position + 1) _ (failing-there (sheetOf s) (σ .configuration) e (σ .calls) k))))))
-
--- One more number, that is not among them.
-distinct-more : (l : List ℕ) (n : ℕ) → distinct l ≡ true → any (λ m. eqb m n) l ≡ false → distinct (l ++ n ∷ []) ≡ true
-distinct-more l n h k = distinct-snoc l n ∙ rw (h, k)
 
 -- An entry that is taken keeps a sound state sound.
 module _ {s : List ℕ} (a : Accepted sheetLayout s) (σ : State) (e : Event) where

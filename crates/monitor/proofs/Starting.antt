@@ -1,8 +1,7 @@
 -- The fresh state, from the header and the words behind it. Assumes nothing.
-use mathlib.Core.Path.{_≡_, refl}
-use mathlib.Core.List.{List, [], _∷_}
+use mathlib.Core.Path.{_≡_}
+use mathlib.Core.List.{List}
 use Prim.Native.Nat.{ℕ}
-use lib.ListN.{getD}
 use Rattle.sheet.specs.declared.Header.{Header}
 use Rattle.sheet.specs.declared.Reading.{Reading}
 use Rattle.sheet.specs.declared.Reading.the-variants.{Accepted, Refused}
@@ -11,22 +10,11 @@ use Rattle.sheet.specs.Decode.{wordForm, commonOf, sheetOf}
 use Rattle.sheet.specs.Reading.{reading, sheetLayout}
 use Rattle.sheet.specs.Answer.{headerOf, answer}
 use Rattle.sheet.proofs.Answers.{answer-accepted, answer-refused}
+use Rattle.step.proofs.Rooms.{four, four-of-eight}
 use Rattle.monitor.specs.declared.WatchState.{WatchState}
 use Rattle.monitor.specs.declared.Fresh.{Fresh}
 use Rattle.monitor.specs.Monitor.{fresh}
 use Rattle.monitor.specs.Padded.{zeroState, pad, freshOf}
-
--- the first four of eight words
-abbrev four : List ℕ → List ℕ
-four w = getD w 0 0 ∷ getD w 1 0 ∷ getD w 2 0 ∷ getD w 3 0 ∷ []
-
-four-of-eight : (l : List ℕ) → four (fit 8 0 l) ≡ fit 4 0 l
-unfolding fit
-four-of-eight [] = refl
-four-of-eight (a ∷ []) = refl
-four-of-eight (a ∷ b ∷ []) = refl
-four-of-eight (a ∷ b ∷ c ∷ []) = refl
-four-of-eight (a ∷ b ∷ c ∷ d ∷ l) = refl
 
 pub started-found : (s : List ℕ) (h : Header) (w : List ℕ) (z : WatchState) → h ≡ headerOf s → w ≡ fit 8 0 (table wordForm (h .monitors) s 14) → z ≡ zeroState
     → record { main = h .start; variables = four w; opened = z .opened; calls = z .calls; arms = z .arms; position = z .position; outcome = z .outcome } ≡ pad (fresh (sheetOf s))

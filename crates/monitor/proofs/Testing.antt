@@ -1,4 +1,4 @@
--- Loops that test the first elements of a row, and what the tests of a sound state come to. Assumes nothing.
+-- Loops that test the first elements of two rows, or whether numbers rise, and what the tests of a sound state come to. Assumes nothing.
 use mathlib.Core.Path.{_≡_, refl, sym, ap, ap₂, _∙_}
 use mathlib.Core.Bool.{Bool, true, false, _&&_, false≢true}
 use mathlib.Core.List.{List, [], _∷_}
@@ -22,22 +22,7 @@ use Rattle.monitor.specs.Padded.{tidyArms}
 use Rattle.monitor.specs.Walk.{tripleAt}
 use Rattle.monitor.proofs.Views.{length-beside}
 
--- Tests on the first `n` elements of a row, i of them seen; b is what they answer on the whole.
-module _ {A : Type 0} (p : A → Bool) (row : List A) (n i : ℕ) (b : Bool) (g : every p (drop i (take n row)) ≡ b) where
-  pub part-end : n ≤ i → true ≡ b
-  part-end h = every-end p (take n row) i b g (omega (arith, length-take n row))
-
-  pub part-far : length row ≤ i → true ≡ b
-  part-far h = every-end p (take n row) i b g (omega (arith, length-take n row))
-
-  module _ (d : A) (h : i < n) (k : i < length row) where
-    pub part-next : p (getD row i d) ≡ true → every p (drop (i + 1) (take n row)) ≡ b
-    part-next t = every-next p (take n row) i b g d (omega (arith, length-take n row)) (rw (getD-take n row i d h) t)
-
-    pub part-fails : p (getD row i d) ≡ false → false ≡ b
-    part-fails t = every-fails p (take n row) i b g d (omega (arith, length-take n row)) (rw (getD-take n row i d h) t)
-
--- The same where each element stands beside one of a second row.
+-- Tests on the first `n` elements of a row, each with the one beside it in a second row.
 getD-beside : {A B C : Type 0} (f : A → B → C) (l : List A) (m : List B) (i : ℕ) (d : A) (e : B) → i < length l → i < length m → getD (beside f l m) i (f d e) ≡ f (getD l i d) (getD m i e)
 unfolding beside
 getD-beside f [] m i d e h k = absurd (omega arith)

@@ -1,60 +1,28 @@
 -- What a state shows, and its padded form: each is the other's inverse on sound states. Assumes nothing.
 use mathlib.Core.Path.{_≡_, refl, sym, ap, ap₂, subst, _∙_}
 use mathlib.Core.Bool.{Bool, true, _&&_}
-use mathlib.Core.Option.{Option, none, some}
-use mathlib.Core.List.{List, [], _∷_, _++_, map}
-use Prim.Native.Nat.{ℕ, zero, suc, _≤_}
+use mathlib.Core.List.{List, [], _∷_, map, map-map}
+use Prim.Native.Nat.{ℕ, suc, _≤_}
 use native.Mathlib.Omega.{arith}
-use lib.Dec.{eqb}
 use lib.ListN.{length, take, drop, length-map, length-take}
 use Rattle.sheet.specs.Table.{every, fit}
 use Rattle.sheet.specs.Parts.{Sheet}
 use Rattle.sheet.specs.Decode.{sheetOf}
 use Rattle.sheet.specs.Reading.{sheetLayout}
 use Rattle.sheet.proofs.Accepted.{Accepted, bounds}
-use Rattle.sheet.proofs.Tables.{and-parts, and-both}
+use Rattle.sheet.proofs.Tables.{and-parts}
 use Rattle.sheet.proofs.Tests.{and-iff, leb-iff, eqb-iff}
 use Rattle.step.specs.declared.Call.{Call}
-use Rattle.step.specs.declared.Verdict.{Verdict}
-use Rattle.step.specs.declared.Outcome.{Outcome}
-use Rattle.step.specs.declared.Outcome.the-variants.{Open, Judged}
 use Rattle.step.specs.Lists.{beside}
-use Rattle.step.specs.Verdicts.{outcomeOf, verdictIn}
 use Rattle.step.specs.Walk.{unpad}
-use Rattle.step.specs.Padding.{zeroCall, padCall, clear, padded, isZeroCall}
+use Rattle.step.specs.Padding.{zeroCall, padCall, padded, isZeroCall}
+use Rattle.step.proofs.Rooms.{take-fit, take-fitted, fit-take, map-same, every-drop, every-both, every-take, is-zero, fit-padded, rows-in, call-back, outcome-verdict, verdict-outcome}
 use Rattle.monitor.specs.declared.Arms.{Arms}
 use Rattle.monitor.specs.declared.WatchState.{WatchState}
 use Rattle.monitor.specs.Monitor.{Armed, State}
 use Rattle.monitor.specs.Sound.{callSound, sound}
 use Rattle.monitor.specs.Padded.{zeroArms, padArms, pad, shown, view, isZeroArms, tidyArms, tidy, soundState}
 use Rattle.monitor.specs.Walk.{Ready}
-
--- Room for n elements: what fits comes out again, and what stands in an array goes in again where the rest is d.
-module _ {A : Type 0} (d : A) where
-  pub take-fit : (n : ℕ) (l : List A) → length l ≤ n → take (length l) (fit n d l) ≡ l
-  unfolding fit
-  take-fit n [] h = refl
-  take-fit zero (x ∷ l) h = absurd (omega arith)
-  take-fit (suc n) (x ∷ l) h = ap (λ (m : List A). x ∷ m) (take-fit n l (omega arith))
-
-  pub take-fitted : (n m : ℕ) (l : List A) → length l ≡ m → m ≤ n → take m (fit n d l) ≡ l
-  take-fitted n m l e h = rw (← e) (take-fit n l (rw (← e) at h))
-
-  -- what replaces the first elements, with the rest of the room behind it
-  pub behind-fit : (n : ℕ) (l m : List A) → length l ≡ length m → length m ≤ n → m ++ drop (length l) (fit n d l) ≡ fit n d m
-  unfolding fit
-  behind-fit n [] [] e h = refl
-  behind-fit n [] (y ∷ m) e h = absurd (omega arith)
-  behind-fit n (x ∷ l) [] e h = absurd (omega arith)
-  behind-fit zero (x ∷ l) (y ∷ m) e h = absurd (omega arith)
-  behind-fit (suc n) (x ∷ l) (y ∷ m) e h = ap (λ (r : List A). y ∷ r) (behind-fit n l m (omega arith) (omega arith))
-
-  pub fit-take : (p : A → Bool) → ((x : A) → p x ≡ true → x ≡ d) → (k : ℕ) (l : List A) → every p (drop k l) ≡ true → fit (length l) d (take k l) ≡ l
-  unfolding fit every
-  fit-take p h zero [] e = refl
-  fit-take p h zero (x ∷ l) e = let (a, b) = and-parts (p x) (every p l) e in ap₂ (λ (y : A) (m : List A). y ∷ m) (sym (h x a)) (fit-take p h zero l b)
-  fit-take p h (suc k) [] e = refl
-  fit-take p h (suc k) (x ∷ l) e = ap (λ (m : List A). x ∷ m) (fit-take p h k l e)
 
 -- Two lists side by side: as long as both, one side of them, and two images of one list.
 module _ {A B C : Type 0} (f : A → B → C) where
@@ -80,53 +48,12 @@ module _ {A B C : Type 0} (f : A → B → C) where
 
 -- What takes each element apart and puts it together leaves a list as it is.
 module _ {C : Type 0} (p : C → Bool) where
-  pub map-same : (f : C → C) → ((x : C) → p x ≡ true → f x ≡ x) → (l : List C) → every p l ≡ true → map f l ≡ l
-  unfolding every
-  map-same f h [] e = refl
-  map-same f h (x ∷ l) e = let (a, b) = and-parts (p x) (every p l) e in ap₂ (λ (y : C) (m : List C). y ∷ m) (h x a) (map-same f h l b)
-
   pub beside-same : {A B : Type 0} (f : A → B → C) (g : C → A) (h : C → B) → ((x : C) → p x ≡ true → f (g x) (h x) ≡ x) → (l : List C) → every p l ≡ true → beside f (map g l) (map h l) ≡ l
   unfolding every beside
   beside-same f g h k [] e = refl
   beside-same f g h k (x ∷ l) e = let (a, b) = and-parts (p x) (every p l) e in ap₂ (λ (y : C) (m : List C). y ∷ m) (k x a) (beside-same f g h k l b)
 
-  pub every-drop : (k : ℕ) (l : List C) → every p l ≡ true → every p (drop k l) ≡ true
-  unfolding every
-  every-drop zero l e = e
-  every-drop (suc k) [] e = e
-  every-drop (suc k) (x ∷ l) e = every-drop k l (and-parts (p x) (every p l) e .1)
-
-  pub every-both : (q : C → Bool) (l : List C) → every p l ≡ true → every q l ≡ true → every (λ x. p x && q x) l ≡ true
-  unfolding every
-  every-both q [] e f = refl
-  every-both q (x ∷ l) e f =
-      let (a, b) = and-parts (p x) (every p l) e in
-      let (c, d) = and-parts (q x) (every q l) f in
-      and-both (and-both a c) (every-both q l b d)
-
-  pub every-take : (k : ℕ) (l : List C) → every p l ≡ true → every p (take k l) ≡ true
-  unfolding every
-  every-take zero l e = refl
-  every-take (suc k) [] e = refl
-  every-take (suc k) (x ∷ l) e = let (a, b) = and-parts (p x) (every p l) e in and-both a (every-take k l b)
-
--- Numbers with zeros behind them.
-is-zero : (x : ℕ) → eqb x 0 ≡ true → x ≡ 0
-is-zero x h = simp eqb-iff at h
-
-fit-padded : (size n : ℕ) (l : List ℕ) → eqb (length l) size ≡ true → clear n l ≡ true → fit size 0 (take n l) ≡ l
-unfolding clear
-fit-padded size n l e c =
-    let long : length l ≡ size = simp eqb-iff at e in
-    rw (← long) (fit-take 0 (λ x. eqb x 0) is-zero n l c)
-
--- A call and what is armed for it, taken out of its padding and put in again.
-pad-call : (P : ℕ) (c : Call) → padded 8 P (c .kept) ≡ true → padCall (unpad P c) ≡ c
-pad-call P c h =
-    let (k, z) = simp and-iff at h in
-    let e = fit-padded 8 P (c .kept) k z in
-    λ i. record { number = c .number; unit = c .unit; kept = e i }
-
+-- What is armed for a call, taken out of its padding and put in again.
 pad-arms : (a : Arms) → tidyArms a ≡ true → padArms (take (a .count) (a .triples)) ≡ a
 pad-arms a h =
     let (m, (k, z)) = simp and-iff at h in
@@ -136,27 +63,12 @@ pad-arms a h =
     let n : length (take (a .count) (a .triples)) ≡ a .count = omega (arith, length-take (a .count) (a .triples)) in
     λ i. record { count = n i; triples = e i }
 
-zero-call : (P : ℕ) (c : Call) → (padded 8 P (c .kept) && isZeroCall c) ≡ true → c ≡ zeroCall
-unfolding fit
-zero-call P c h =
-    let ((k, b), (n, (u, z))) = simp and-iff at h in
-    let e = fit-padded 8 0 (c .kept) k z in
-    λ i. record { number = is-zero (c .number) n i; unit = is-zero (c .unit) u i; kept = sym e i }
-
 zero-arms : (a : Arms) → (tidyArms a && isZeroArms a) ≡ true → a ≡ zeroArms
 unfolding fit
 zero-arms a h =
     let ((m, (k, b)), (n, z)) = simp and-iff at h in
     let e = fit-padded 4 0 (a .triples) k z in
     λ i. record { count = is-zero (a .count) n i; triples = sym e i }
-
-outcome-verdict : (o : Outcome) → outcomeOf (verdictIn o) ≡ o
-outcome-verdict Open = refl
-outcome-verdict (Judged v) = refl
-
-pub verdict-outcome : (o : Option Verdict) → verdictIn (outcomeOf o) ≡ o
-verdict-outcome none = refl
-verdict-outcome (some v) = refl
 
 -- The calls and what is armed for them, by the rows that hold them.
 module _ (P opened : ℕ) (calls : List Call) (arms : List Arms) (long : length calls ≡ length arms) where
@@ -169,11 +81,8 @@ module _ (P opened : ℕ) (calls : List Call) (arms : List Arms) (long : length 
   calls-in : every (λ (c : Call). padded 8 P (c .kept)) calls ≡ true → every isZeroCall (drop opened calls) ≡ true
       → fit (length calls) zeroCall (map (λ (a : Armed). padCall (a .call)) (beside (shown P) (take opened calls) (take opened arms))) ≡ calls
   calls-in h z =
-      let p : Call → Bool = λ c. padded 8 P (c .kept) in
-      let e = beside-left (shown P) (λ (a : Armed). padCall (a .call)) (λ c. padCall (unpad P c)) (λ c a. refl) (take opened calls) (take opened arms) as-long in
-      let f = map-same p (λ c. padCall (unpad P c)) (pad-call P) (take opened calls) (every-take p opened calls h) in
-      ap (fit (length calls) zeroCall) (e ∙ f)
-      ∙ fit-take zeroCall (λ c. p c && isZeroCall c) (zero-call P) opened calls (every-both p isZeroCall (drop opened calls) (every-drop p opened calls h) z)
+      let e = sym (map-map padCall (λ (a : Armed). a .call) (beside (shown P) (take opened calls) (take opened arms))) ∙ ap (map padCall) calls-of in
+      ap (fit (length calls) zeroCall) e ∙ rows-in P opened calls h z
 
   arms-in : every tidyArms arms ≡ true → every isZeroArms (drop opened arms) ≡ true
       → fit (length arms) zeroArms (map (λ (a : Armed). padArms (a .armed)) (beside (shown P) (take opened calls) (take opened arms))) ≡ arms
@@ -210,9 +119,8 @@ module _ (S : Sheet) where
   unfolding callSound
   shown-back few a h =
       let (u, (k, (m, r))) = simp and-iff at h in
-      let kept = take-fitted 0 8 (S .common .programs) (a .call .kept) (simp eqb-iff at k) few in
       let armed = take-fit 0 4 (a .armed) (simp leb-iff at m) in
-      λ i. record { call = record { number = a .call .number; unit = a .call .unit; kept = kept i }; armed = armed i }
+      λ i. record { call = call-back (S .common .programs) few (a .call) k i; armed = armed i }
 
   pub view-pad : (σ : State) → S .common .monitors ≤ 4 → S .common .programs ≤ 8 → sound S σ ≡ true → view S (pad σ) ≡ σ
   unfolding sound pad view

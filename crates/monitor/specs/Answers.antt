@@ -8,7 +8,7 @@ use Rattle.sheet.specs.Reading.{unless, orElse, reading, sheetLayout}
 use Rattle.sheet.specs.Log.{Event, logReading, eventsOf}
 use Rattle.step.specs.declared.RunAnswer.{RunAnswer}
 use Rattle.step.specs.declared.RunAnswer.the-variants as run
-use Rattle.step.specs.Answers.{answerOf}
+use Rattle.step.specs.Answers.{answerOf, unlessRefused}
 use Rattle.monitor.specs.declared.WatchState.{WatchState}
 use Rattle.monitor.specs.declared.Offered.{Offered}
 use Rattle.monitor.specs.Monitor as Monitor
@@ -32,10 +32,6 @@ abbrev pub ranAnswer : Monitor.Ran → RunAnswer
 ranAnswer (Monitor.violated v) = run.Violated v
 ranAnswer (Monitor.clean σ) = run.Clean (σ .position) (σ .configuration .main) (length (σ .calls))
 ranAnswer (Monitor.refusedAt n i) = run.RefusedAt n i
-
-abbrev pub unlessRefused : ℕ → RunAnswer → RunAnswer
-unlessRefused zero rest = rest
-unlessRefused (suc n) rest = run.Refused (suc n)
 
 -- "Running it from fresh: the reading refusals; 16 ..; 17 ..; 18 .. Then events until a verdict"
 unfoldable pub runOf : List ℕ → List ℕ → RunAnswer

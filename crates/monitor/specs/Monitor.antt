@@ -1,5 +1,5 @@
 -- One event and a run of them on a sheet (document 01, "One event"), on states without padding.
-use mathlib.Core.Bool.{Bool, true, false, not, cond, _&&_}
+use mathlib.Core.Bool.{Bool, not, cond, _&&_}
 use mathlib.Core.Option.{Option, none, some}
 use mathlib.Core.List.{List, [], _∷_, _++_, map}
 use Prim.Native.Nat.{ℕ, zero, suc, _+_}
@@ -14,7 +14,7 @@ use Rattle.step.specs.Lists.{first, keep, numbers, least}
 use Rattle.step.specs.Meets.{meets}
 use Rattle.step.specs.Moves.{Configuration, seen, moved}
 use Rattle.step.specs.Calls.{Call, isEntry, refusals, lowest}
-use Rattle.step.specs.Verdicts.{verdict}
+use Rattle.step.specs.Verdicts.{verdict, isJudged}
 
 -- an open call with the numbers of the triples armed for it
 pub record Armed : Type 0 where
@@ -79,10 +79,6 @@ exited S σ e =
       position = σ .position + 1;
       verdict = verdict (S .common) (σ .position + 1) (to .main) (failing S (σ .configuration) e (first (ofNumber (e .number)) (σ .calls)));
     }
-
-abbrev pub isJudged : Option Verdict → Bool
-isJudged none = false
-isJudged (some v) = true
 
 -- the lowest of refusals 10 to 15, or 0
 unfoldable pub refusal : Sheet → State → Event → ℕ

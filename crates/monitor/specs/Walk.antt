@@ -2,7 +2,7 @@
 use mathlib.Core.Path.{_≡_}
 use mathlib.Core.Bool.{Bool, true, not, cond, _&&_}
 use mathlib.Core.List.{List, [], _∷_, _++_}
-use Prim.Native.Nat.{ℕ, _+_, _*_, min}
+use Prim.Native.Nat.{ℕ, _+_, _*_}
 use lib.Dec.{eqb}
 use lib.ListN.{take, drop}
 use Rattle.condition.specs.Meaning.{Environment}
@@ -63,11 +63,6 @@ tripleAt s at i = tripleForm .value (drop (at + 4 * i) s)
 -- its postcondition does not hold
 abbrev pub failsAt : List ℕ → List ℕ → ℕ → Environment → ℕ → Bool
 failsAt s index at E i = not (meetsAt s index (tripleAt s at i .postcondition) E)
-
--- the least of some numbers and a first one
-unfoldable pub leastOf : ℕ → List ℕ → ℕ
-leastOf n [] = n
-leastOf n (m ∷ l) = leastOf (min n m) l
 
 -- of a second list, what stands beside the elements of a first that pass a test
 unfoldable pub keepBeside : {A B : Type 0} → (A → Bool) → List A → List B → List B

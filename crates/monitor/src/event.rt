@@ -3,7 +3,7 @@
 ghost use mathlib.Core.Path.{_≡_};
 ghost use mathlib.Core.Bool.{cond, not};
 ghost use mathlib.Core.List.{[]};
-ghost use Prim.Native.Nat.{min, _<_, _≤_};
+ghost use Prim.Native.Nat.{_<_, _≤_};
 ghost use lib.Dec.{eqb};
 ghost use lib.ListN.{length, set, take, drop};
 ghost use Rattle.condition.specs.Meaning.{environment};
@@ -11,11 +11,10 @@ ghost use Rattle.sheet.specs.Bytes.{byte};
 ghost use Rattle.sheet.specs.Table.{fit, table};
 ghost use Rattle.sheet.specs.Decode.{tripleForm, sheetOf};
 ghost use Rattle.step.specs.Lists.{keep, numbers};
-ghost use Rattle.step.specs.Verdicts.{verdictIn};
-ghost use Rattle.step.specs.Walk.{eventOf};
+ghost use Rattle.step.specs.Walk.{leastOf, eventOf};
 ghost use Rattle.monitor.specs.Monitor as Monitor;
 ghost use Rattle.monitor.specs.Padded.{zeroArms, padArms, pad, view};
-ghost use Rattle.monitor.specs.Walk.{Prepared, Ready, Unrefused, actionsOf, movedTo, armsAt, failsAt, leastOf, keepBeside};
+ghost use Rattle.monitor.specs.Walk.{Prepared, Ready, Unrefused, actionsOf, movedTo, armsAt, failsAt, keepBeside};
 use crate::Arms;
 use crate::WatchState;
 use sheet::Header;
@@ -23,7 +22,6 @@ use sheet::Record;
 use step::Call;
 use step::Key;
 use step::Moved;
-use step::Outcome;
 
 // The numbers of an accepted sheet's header, and where its transitions and triples begin.
 pub struct Tables {
@@ -50,22 +48,13 @@ pub(crate) fn refusal(
     step::refusal(
         h.units,
         h.programs,
-        is_judged(outcome),
+        step::outcomes::is_judged(outcome),
         state.position,
         calls,
         wide(state.opened),
         event,
         values,
     )
-}
-
-fn is_judged(outcome: Outcome) -> bool
-    ensures { λ r. ⌜ r ≡ Monitor.isJudged (verdictIn outcome) ⌝ }
-{
-    match outcome {
-        Outcome::Open => false,
-        Outcome::Judged(_) => true,
-    }
 }
 
 // The state after an event that is not refused.
@@ -290,7 +279,7 @@ fn lowest_failing(
         if i < 4 {
             let n = triples[i];
             if fails(s, at, n, conditions, values, kept) {
-                low = lesser(low, n);
+                low = step::outcomes::lesser(low, n);
             }
         } else {
             return low;
@@ -306,13 +295,6 @@ fn fails(s: &[u8], at: u16, n: u8, conditions: &[u32; 65], values: &[u32], kept:
 {
     let t = sheet::triple_at(s, long(at) + 4 * word(n));
     !step::condition_holds(s, conditions, t.postcondition, values, &values[..0], kept)
-}
-
-fn lesser(low: u16, n: u8) -> u16
-    ensures { λ r. ⌜ r ≡ min low n ⌝ }
-{
-    let m = n as u16;
-    if m < low { m } else { low }
 }
 
 // The row with what is armed for a call at a place; a place past the end stores nothing.

@@ -5,4 +5,6 @@ pub mod Searching
 pub mod Refusing
 pub mod Filling
 pub mod Turns
+pub mod Rooms
+pub mod Keeping
 pub mod Bridge

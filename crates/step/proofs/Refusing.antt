@@ -1,16 +1,21 @@
 -- The refusals of an event, from the places of its call. Assumes nothing.
 use mathlib.Core.Path.{_≡_, refl, sym, ap, _∙_}
-use mathlib.Core.Bool.{Bool, true, false, not, cond, _&&_}
+use mathlib.Core.Logic.{_↔_}
+use mathlib.Core.Bool.{Bool, true, false, not, cond, _&&_, false≢true}
 use mathlib.Core.List.{List, map}
-use Prim.Native.Nat.{ℕ, min}
+use Prim.Native.Nat.{ℕ, _+_, min, _≤_, _<_}
 use native.Mathlib.Omega.{arith}
-use borrow.Author.Tests.{lt-ltb, le-ltb, ltb-true, ltb-false, le-leb, lt-leb, leb-true, leb-false}
+use borrow.Author.Tests.{lt-ltb, le-ltb, ltb-true, ltb-false, le-leb, lt-leb, leb-true, leb-false, eqb-false}
 use lib.Dec.{leb, ltb, eqb}
 use lib.ListN.{length, take, length-take, length-map}
 use Rattle.sheet.specs.declared.Record.{Record}
+use Rattle.sheet.specs.Parts.{Common}
+use Rattle.sheet.specs.Log.{Event}
+use Rattle.sheet.proofs.Tests.{and-iff, leb-iff, eqb-iff}
 use Rattle.step.specs.declared.Call.{Call}
 use Rattle.step.specs.Lists.{any}
-use Rattle.step.specs.Calls.{lastPosition, refusalsFor, lowest, openNumber}
+use Rattle.step.specs.Calls as Calls
+use Rattle.step.specs.Calls.{isEntry, isExit, openNumber, openFor, mostCalls, lastPosition, refusalsFor, refusals, lowest}
 use Rattle.step.specs.Walk.{placeOf, unpad, eventOf}
 use Rattle.step.proofs.Lists.{any-map}
 use Rattle.step.proofs.Searching.{any-place}
@@ -52,3 +57,40 @@ pub refusal-found :
 unfolding lowest
 refusal-found units programs judged position calls opened r values n place known long en ep ek =
     rw (en, open-there programs calls opened long (r .number) (r .unit) place ep, full-there programs calls opened long (r .number) (r .unit), ek, for-there programs calls opened long (r .number) (r .unit))
+
+-- An event that is refused for no reason, with or without a verdict, at a position, with some calls open.
+pub record Free (C : Common) (judged : Bool) (position : ℕ) (calls : List Calls.Call) (e : Event) : Type 0 where
+  pub unjudged : judged ≡ false
+  pub kind : e .kind ≤ 1
+  pub unit : e .unit < C .units
+  pub values : length (e .values) ≡ C .programs
+  pub notLast : eqb position lastPosition ≡ false
+  pub notOpen : (isEntry e && openNumber (e .number) calls) ≡ false
+  pub room : (isEntry e && leb mostCalls (length calls)) ≡ false
+  pub isOpen : (isExit e && not (openFor e calls)) ≡ false
+
+cond-iff : (b : Bool) (n rest : ℕ) → eqb n 0 ≡ false → cond b n rest ≡ 0 ↔ (b ≡ false) × (rest ≡ 0)
+cond-iff true n rest h = (λ e. absurd (eqb-false n 0 h e), λ p. absurd (false≢true (sym (p .0))))
+cond-iff false n rest h = (λ e. (refl, e), λ p. p .1)
+
+not-false-iff : (b : Bool) → not b ≡ false ↔ b ≡ true
+not-false-iff true = (λ _. refl, λ _. refl)
+not-false-iff false = (λ e. absurd (false≢true (sym e)), λ e. absurd (false≢true e))
+
+pub free : (C : Common) (judged : Bool) (position : ℕ) (calls : List Calls.Call) (e : Event) → lowest (refusals C judged position calls e) ≡ 0 → Free C judged position calls e
+unfolding refusals lowest
+free C judged position calls e h =
+    let (a, (b, (c, (d, (f, (g, z)))))) = simp cond-iff at h in
+    let (k, (u, v)) = simp (not-false-iff, and-iff, leb-iff, eqb-iff) at b in
+    record { unjudged = a; kind = k; unit = u; values = v; notLast = c; notOpen = d; room = f; isOpen = g }
+
+-- A position that is not the last has one to come.
+pub below-last : (n : ℕ) → n < 4294967296 → eqb n 4294967295 ≡ false → n + 1 < 4294967296
+below-last n h e = go (ltb n 4294967295) refl
+  where
+    go : (b : Bool) → ltb n 4294967295 ≡ b → n + 1 < 4294967296
+    go true q = omega (arith, ltb-true n 4294967295 q)
+    go false q =
+        let k = ltb-false n 4294967295 q in
+        let same : n ≡ 4294967295 = omega arith in
+        absurd (eqb-false n 4294967295 e same)

@@ -36,6 +36,21 @@ module _ {A : Type 0} (p : A → Bool) (l : List A) (i : ℕ) where
     pub every-fails : (d : A) → i < length l → p (getD l i d) ≡ false → false ≡ b
     every-fails d h t = rw (every-here d h, t) at g
 
+-- Tests on the first `n` elements of a row, i of them seen; b is what they answer on the whole.
+module _ {A : Type 0} (p : A → Bool) (row : List A) (n i : ℕ) (b : Bool) (g : every p (drop i (take n row)) ≡ b) where
+  pub part-end : n ≤ i → true ≡ b
+  part-end h = every-end p (take n row) i b g (omega (arith, length-take n row))
+
+  pub part-far : length row ≤ i → true ≡ b
+  part-far h = every-end p (take n row) i b g (omega (arith, length-take n row))
+
+  module _ (d : A) (h : i < n) (k : i < length row) where
+    pub part-next : p (getD row i d) ≡ true → every p (drop (i + 1) (take n row)) ≡ b
+    part-next t = every-next p (take n row) i b g d (omega (arith, length-take n row)) (rw (getD-take n row i d h) t)
+
+    pub part-fails : p (getD row i d) ≡ false → false ≡ b
+    part-fails t = every-fails p (take n row) i b g d (omega (arith, length-take n row)) (rw (getD-take n row i d h) t)
+
 -- a test on some element of joined lists
 pub any-append : {A : Type 0} (p : A → Bool) (l m : List A) → any p (l ++ m) ≡ cond (any p l) true (any p m)
 unfolding any

@@ -1,5 +1,5 @@
 -- Verdicts (document 01, "One event").
-use mathlib.Core.Bool.{Bool, true, not, cond, _&&_}
+use mathlib.Core.Bool.{Bool, true, false, not, cond, _&&_}
 use mathlib.Core.Option.{Option, none, some}
 use Prim.Native.Nat.{ℕ}
 use lib.Dec.{eqb, ltb}
@@ -31,6 +31,10 @@ verdictFor bad position main triple = placed position (causeOf (badState bad mai
 
 unfoldable pub verdict : Common → ℕ → ℕ → Option ℕ → Option Verdict
 verdict C position main triple = verdictFor (C .bad) position main triple
+
+abbrev pub isJudged : Option Verdict → Bool
+isJudged none = false
+isJudged (some v) = true
 
 -- The paper's state and triple for each case of a cause.
 abbrev pub stateIn : Cause → Option ℕ

@@ -2,7 +2,7 @@
 use mathlib.Core.Bool.{Bool, false, cond, _&&_}
 use mathlib.Core.Option.{Option, none, some}
 use mathlib.Core.List.{List, [], _∷_}
-use Prim.Native.Nat.{ℕ, zero, suc, _+_, _*_}
+use Prim.Native.Nat.{ℕ, zero, suc, _+_, _*_, min}
 use lib.Dec.{ltb, eqb}
 use lib.ListN.{getD, take, drop}
 use Rattle.condition.specs.Meaning.{Environment, environment}
@@ -37,6 +37,11 @@ actedAt s index i program count variables = cond (ltb i 65) (actionPaper count v
 unfoldable pub placeOf : {A : Type 0} → (A → Bool) → List A → ℕ
 placeOf p [] = 0
 placeOf p (x ∷ l) = cond (p x) 0 (suc (placeOf p l))
+
+-- the least of some numbers and a first one
+unfoldable pub leastOf : ℕ → List ℕ → ℕ
+leastOf n [] = n
+leastOf n (m ∷ l) = leastOf (min n m) l
 
 -- a transition with this state, kind and unit whose condition holds
 abbrev pub enabledAt : List ℕ → List ℕ → Key → Environment → Transition → Bool

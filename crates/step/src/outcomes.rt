@@ -2,8 +2,9 @@
 
 ghost use mathlib.Core.Path.{_≡_};
 ghost use mathlib.Core.Bool.{_&&_};
+ghost use Prim.Native.Nat.{min};
 ghost use lib.Dec.{eqb, ltb};
-ghost use Rattle.step.specs.Verdicts.{ifThere, stateIn, tripleIn, verdictFor, verdictFits, outcomeOf, verdictIn};
+ghost use Rattle.step.specs.Verdicts.{ifThere, stateIn, tripleIn, verdictFor, verdictFits, isJudged, outcomeOf, verdictIn};
 ghost use Rattle.step.specs.Walk.{numberIn};
 ghost use Rattle.sheet.specs.Reading.{isBad};
 use crate::Cause;
@@ -59,4 +60,22 @@ fn cause_fits(bad: u16, triples: u8, main: u8, cause: Cause) -> bool
         Cause::Triple(t) => t < triples,
         Cause::Both(q, t) => ((q == main) & sheet::is_bad(bad, q)) & (t < triples),
     }
+}
+
+// Whether there is a verdict.
+pub fn is_judged(outcome: Outcome) -> bool
+    ensures { λ r. ⌜ r ≡ isJudged (verdictIn outcome) ⌝ }
+{
+    match outcome {
+        Outcome::Open => false,
+        Outcome::Judged(_) => true,
+    }
+}
+
+// The lesser of a number so far and a triple's.
+pub fn lesser(low: u16, n: u8) -> u16
+    ensures { λ r. ⌜ r ≡ min low n ⌝ }
+{
+    let m = n as u16;
+    if m < low { m } else { low }
 }

@@ -9,8 +9,9 @@ use native.Mathlib.Omega.{arith}
 use lib.Dec.{eqb}
 use lib.ListN.{length, getD, take, drop}
 use Rattle.sheet.specs.Table.{every}
+use Rattle.step.proofs.Turns.{part-end, part-far, part-next, part-fails}
 use Rattle.monitor.specs.Walk.{tripleAt}
-use Rattle.monitor.proofs.Testing.{part-end, part-far, part-next, part-fails, triple-read, state-is}
+use Rattle.monitor.proofs.Testing.{triple-read, state-is}
 use Rattle.monitor.proofs.sound.of_one_state.Statement.{statement}
 use Rattle.monitor.proofs.sound.of_one_state.Tie as tie
 

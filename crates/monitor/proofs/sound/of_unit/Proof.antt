@@ -8,8 +8,9 @@ use native.Mathlib.Omega.{arith}
 use lib.Dec.{eqb, ltb}
 use lib.ListN.{length, take, drop}
 use Rattle.sheet.specs.Table.{every}
+use Rattle.step.proofs.Turns.{part-end, part-far, part-next, part-fails}
 use Rattle.monitor.specs.Walk.{tripleAt}
-use Rattle.monitor.proofs.Testing.{part-end, part-far, part-next, part-fails, unit-is}
+use Rattle.monitor.proofs.Testing.{unit-is}
 use Rattle.monitor.proofs.sound.of_unit.Statement.{statement}
 use Rattle.monitor.proofs.sound.of_unit.Tie as tie
 

@@ -1,0 +1,162 @@
+-- Arrays with room behind what is there: what goes in comes out again, and what stands there goes in again. Assumes nothing.
+use mathlib.Core.Path.{_≡_, refl, sym, ap, ap₂, _∙_}
+use mathlib.Core.Bool.{Bool, true, _&&_}
+use mathlib.Core.Option.{Option, none, some}
+use mathlib.Core.List.{List, [], _∷_, _++_, map, map-append, map-map}
+use Prim.Native.Nat.{ℕ, zero, suc, _≤_, _<_}
+use native.Mathlib.Omega.{arith}
+use lib.Dec.{eqb}
+use lib.ListN.{length, getD, set, take, drop, length-map}
+use Rattle.sheet.specs.Table.{every, fit}
+use Rattle.sheet.proofs.Tables.{and-parts, and-both}
+use Rattle.sheet.proofs.Tests.{and-iff, eqb-iff}
+use Rattle.step.specs.declared.Call.{Call}
+use Rattle.step.specs.declared.Verdict.{Verdict}
+use Rattle.step.specs.declared.Outcome.{Outcome}
+use Rattle.step.specs.declared.Outcome.the-variants.{Open, Judged}
+use Rattle.step.specs.Calls as Calls
+use Rattle.step.specs.Verdicts.{outcomeOf, verdictIn}
+use Rattle.step.specs.Walk.{unpad}
+use Rattle.step.specs.Padding.{zeroCall, padCall, clear, padded, isZeroCall}
+
+-- Room for n elements: what fits comes out again, and what stands in an array goes in again where the rest is d.
+module _ {A : Type 0} (d : A) where
+  pub take-fit : (n : ℕ) (l : List A) → length l ≤ n → take (length l) (fit n d l) ≡ l
+  unfolding fit
+  take-fit n [] h = refl
+  take-fit zero (x ∷ l) h = absurd (omega arith)
+  take-fit (suc n) (x ∷ l) h = ap (λ (m : List A). x ∷ m) (take-fit n l (omega arith))
+
+  pub take-fitted : (n m : ℕ) (l : List A) → length l ≡ m → m ≤ n → take m (fit n d l) ≡ l
+  take-fitted n m l e h = rw (← e) (take-fit n l (rw (← e) at h))
+
+  -- what replaces the first elements, with the rest of the room behind it
+  pub behind-fit : (n : ℕ) (l m : List A) → length l ≡ length m → length m ≤ n → m ++ drop (length l) (fit n d l) ≡ fit n d m
+  unfolding fit
+  behind-fit n [] [] e h = refl
+  behind-fit n [] (y ∷ m) e h = absurd (omega arith)
+  behind-fit n (x ∷ l) [] e h = absurd (omega arith)
+  behind-fit zero (x ∷ l) (y ∷ m) e h = absurd (omega arith)
+  behind-fit (suc n) (x ∷ l) (y ∷ m) e h = ap (λ (r : List A). y ∷ r) (behind-fit n l m (omega arith) (omega arith))
+
+  pub fit-take : (p : A → Bool) → ((x : A) → p x ≡ true → x ≡ d) → (k : ℕ) (l : List A) → every p (drop k l) ≡ true → fit (length l) d (take k l) ≡ l
+  unfolding fit every
+  fit-take p h zero [] e = refl
+  fit-take p h zero (x ∷ l) e = let (a, b) = and-parts (p x) (every p l) e in ap₂ (λ (y : A) (m : List A). y ∷ m) (sym (h x a)) (fit-take p h zero l b)
+  fit-take p h (suc k) [] e = refl
+  fit-take p h (suc k) (x ∷ l) e = ap (λ (m : List A). x ∷ m) (fit-take p h k l e)
+
+-- as many places as there is room for
+pub length-fit : {A : Type 0} (n : ℕ) (d : A) (l : List A) → length (fit n d l) ≡ n
+unfolding fit
+length-fit zero d l = refl
+length-fit (suc n) d [] = ap suc (length-fit n d [])
+length-fit (suc n) d (x ∷ l) = ap suc (length-fit n d l)
+
+-- one more element behind those of an array
+pub set-fit : {A : Type 0} (d : A) (n : ℕ) (l : List A) (x : A) → length l < n → set (fit n d l) (length l) x ≡ fit n d (l ++ x ∷ [])
+unfolding fit
+set-fit d zero l x h = absurd (omega arith)
+set-fit d (suc n) [] x h = refl
+set-fit {A} d (suc n) (y ∷ l) x h = ap (λ (m : List A). y ∷ m) (set-fit d n l x (omega arith))
+
+pub row-more : {A B : Type 0} (f : B → A) (d : A) (size : ℕ) (row : List A) (l : List B) (x : B) (n : ℕ) (y : A) → fit size d (map f l) ≡ row → n ≡ length l → length l < size → y ≡ f x
+    → set row n y ≡ fit size d (map f (l ++ x ∷ []))
+row-more f d size row l x n y e g h k =
+    let long = length-map l f in
+    let there : n ≡ length (map f l) = omega arith in
+    rw (← e, there, k) (set-fit d size (map f l) (f x) (omega arith) ∙ ap (fit size d) (sym (map-append f l (x ∷ []))))
+
+-- What takes each element apart and puts it together leaves a list as it is; what holds of all elements holds of some of them.
+module _ {C : Type 0} (p : C → Bool) where
+  pub map-same : (f : C → C) → ((x : C) → p x ≡ true → f x ≡ x) → (l : List C) → every p l ≡ true → map f l ≡ l
+  unfolding every
+  map-same f h [] e = refl
+  map-same f h (x ∷ l) e = let (a, b) = and-parts (p x) (every p l) e in ap₂ (λ (y : C) (m : List C). y ∷ m) (h x a) (map-same f h l b)
+
+  pub every-drop : (k : ℕ) (l : List C) → every p l ≡ true → every p (drop k l) ≡ true
+  unfolding every
+  every-drop zero l e = e
+  every-drop (suc k) [] e = e
+  every-drop (suc k) (x ∷ l) e = every-drop k l (and-parts (p x) (every p l) e .1)
+
+  pub every-both : (q : C → Bool) (l : List C) → every p l ≡ true → every q l ≡ true → every (λ x. p x && q x) l ≡ true
+  unfolding every
+  every-both q [] e f = refl
+  every-both q (x ∷ l) e f =
+      let (a, b) = and-parts (p x) (every p l) e in
+      let (c, d) = and-parts (q x) (every q l) f in
+      and-both (and-both a c) (every-both q l b d)
+
+  pub every-take : (k : ℕ) (l : List C) → every p l ≡ true → every p (take k l) ≡ true
+  unfolding every
+  every-take zero l e = refl
+  every-take (suc k) [] e = refl
+  every-take (suc k) (x ∷ l) e = let (a, b) = and-parts (p x) (every p l) e in and-both a (every-take k l b)
+
+-- Numbers with zeros behind them.
+pub is-zero : (x : ℕ) → eqb x 0 ≡ true → x ≡ 0
+is-zero x h = simp eqb-iff at h
+
+pub fit-padded : (size n : ℕ) (l : List ℕ) → eqb (length l) size ≡ true → clear n l ≡ true → fit size 0 (take n l) ≡ l
+unfolding clear
+fit-padded size n l e c =
+    let long : length l ≡ size = simp eqb-iff at e in
+    rw (← long) (fit-take 0 (λ x. eqb x 0) is-zero n l c)
+
+-- the first four of eight words
+abbrev pub four : List ℕ → List ℕ
+four w = getD w 0 0 ∷ getD w 1 0 ∷ getD w 2 0 ∷ getD w 3 0 ∷ []
+
+pub four-of-eight : (l : List ℕ) → four (fit 8 0 l) ≡ fit 4 0 l
+unfolding fit
+four-of-eight [] = refl
+four-of-eight (a ∷ []) = refl
+four-of-eight (a ∷ b ∷ []) = refl
+four-of-eight (a ∷ b ∷ c ∷ []) = refl
+four-of-eight (a ∷ b ∷ c ∷ d ∷ l) = refl
+
+-- A call, taken out of its padding and put in again.
+pub pad-call : (P : ℕ) (c : Call) → padded 8 P (c .kept) ≡ true → padCall (unpad P c) ≡ c
+pad-call P c h =
+    let (k, z) = simp and-iff at h in
+    let e = fit-padded 8 P (c .kept) k z in
+    λ i. record { number = c .number; unit = c .unit; kept = e i }
+
+pub zero-call : (P : ℕ) (c : Call) → (padded 8 P (c .kept) && isZeroCall c) ≡ true → c ≡ zeroCall
+unfolding fit
+zero-call P c h =
+    let ((k, b), (n, (u, z))) = simp and-iff at h in
+    let e = fit-padded 8 0 (c .kept) k z in
+    λ i. record { number = is-zero (c .number) n i; unit = is-zero (c .unit) u i; kept = sym e i }
+
+-- Rows of calls: what stands in one goes in again, and what goes in comes out again.
+module _ (P : ℕ) where
+  pub rows-in : (opened : ℕ) (calls : List Call) → every (λ (c : Call). padded 8 P (c .kept)) calls ≡ true → every isZeroCall (drop opened calls) ≡ true
+      → fit (length calls) zeroCall (map padCall (map (unpad P) (take opened calls))) ≡ calls
+  rows-in opened calls h z =
+      let p : Call → Bool = λ c. padded 8 P (c .kept) in
+      let same = map-same p (λ c. padCall (unpad P c)) (pad-call P) (take opened calls) (every-take p opened calls h) in
+      ap (fit (length calls) zeroCall) (map-map padCall (unpad P) (take opened calls) ∙ same)
+      ∙ fit-take zeroCall (λ c. p c && isZeroCall c) (zero-call P) opened calls (every-both p isZeroCall (drop opened calls) (every-drop p opened calls h) z)
+
+  pub call-back : P ≤ 8 → (c : Calls.Call) → eqb (length (c .kept)) P ≡ true → unpad P (padCall c) ≡ c
+  call-back few c h =
+      let kept = take-fitted 0 8 P (c .kept) (simp eqb-iff at h) few in
+      λ i. record { number = c .number; unit = c .unit; kept = kept i }
+
+  pub rows-out : (l : List Calls.Call) → P ≤ 8 → every (λ (c : Calls.Call). eqb (length (c .kept)) P) l ≡ true → length l ≤ 16
+      → map (unpad P) (take (length l) (fit 16 zeroCall (map padCall l))) ≡ l
+  rows-out l few h room =
+      ap (map (unpad P)) (take-fitted zeroCall 16 (length l) (map padCall l) (length-map l padCall) room)
+      ∙ map-map (unpad P) padCall l
+      ∙ map-same (λ (c : Calls.Call). eqb (length (c .kept)) P) (λ c. unpad P (padCall c)) (call-back few) l h
+
+-- An outcome and the verdict in it.
+pub outcome-verdict : (o : Outcome) → outcomeOf (verdictIn o) ≡ o
+outcome-verdict Open = refl
+outcome-verdict (Judged v) = refl
+
+pub verdict-outcome : (o : Option Verdict) → verdictIn (outcomeOf o) ≡ o
+verdict-outcome none = refl
+verdict-outcome (some v) = refl
