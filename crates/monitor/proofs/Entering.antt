@@ -14,9 +14,9 @@ use Rattle.sheet.specs.declared.Record.{Record}
 use Rattle.sheet.specs.Bytes.{byte}
 use Rattle.sheet.specs.Table.{table, fit}
 use Rattle.sheet.specs.Decode.{transitionForm, tripleForm, lastIn, lastAt, commonOf, sheetOf}
-use Rattle.sheet.specs.Reading.{lastOf, sheetLayout}
+use Rattle.sheet.specs.Reading.{transitionsOf, lastOf, sheetLayout}
 use Rattle.sheet.specs.Log.{Event}
-use Rattle.sheet.proofs.Accepted.{Accepted, GoodTriple, accepted, sheet-triple}
+use Rattle.sheet.proofs.Accepted.{Accepted, GoodTriple, accepted, bounds, sheet-triple}
 use Rattle.sheet.proofs.Tables.{and-assoc}
 use Rattle.sheet.proofs.Tests.{and-iff, eqb-iff}
 use Rattle.step.specs.declared.Call.{Call}
@@ -28,6 +28,7 @@ use Rattle.step.specs.Verdicts.{verdict, verdictFor, outcomeOf}
 use Rattle.step.specs.Padding.{zeroCall, padCall}
 use Rattle.step.specs.Walk.{eventOf, numberIn}
 use Rattle.step.proofs.Bridge.{conditionPlaces, before-meets}
+use Rattle.step.proofs.Moving.{moved-fits}
 use Rattle.step.proofs.Rooms.{row-more}
 use Rattle.monitor.specs.declared.Arms.{Arms}
 use Rattle.monitor.specs.declared.WatchState.{WatchState}
@@ -38,7 +39,6 @@ use Rattle.monitor.specs.Padded.{zeroArms, padArms, pad, view}
 use Rattle.monitor.specs.Walk.{Prepared, Ready, movedFrom, movedTo, armsAt}
 use Rattle.monitor.proofs.Broken.{noTriple}
 use Rattle.monitor.proofs.Calls.{Free, free}
-use Rattle.monitor.proofs.Moving.{moved-fits}
 
 -- The triples that the loop finds are those that the definition arms.
 numbers-same : {A : Type 0} (q r : A → Bool) (d : A) (j : ℕ) (l : List A) → ((i : ℕ) → i < length l → q (getD l i d) ≡ r (getD l i d)) → numbers q j l ≡ numbers r j l
@@ -82,7 +82,7 @@ module _ {s : List ℕ} {t : Tables} {c : List ℕ} (p : Prepared s t c) (w : Wa
       let x = take (commonOf s .monitors) (w .variables) in
       let (b, (v, rest)) = simp (and-iff, eqb-iff) at (r .sound) in
       let back : fit 4 0 x ≡ w .variables = ap (λ (u : WatchState). u .variables) (r .padded) in
-      ap (λ (l : List ℕ). movedTo s (w .main) l (eventOf event values)) (sym back) ∙ moved-fits there (record { main = w .main; variables = x }) (eventOf event values) v
+      ap (λ (l : List ℕ). movedTo s (w .main) l (eventOf event values)) (sym back) ∙ moved-fits (commonOf s) (transitionsOf sheetLayout s) (bounds there .monitors) (record { main = w .main; variables = x }) (eventOf event values) v
 
   has-room : event .kind ≡ 0 → length (view (sheetOf s) w .calls) < 16
   has-room entry =

@@ -14,7 +14,7 @@ use Rattle.sheet.specs.declared.Triple.{Triple}
 use Rattle.sheet.specs.declared.Record.{Record}
 use Rattle.sheet.specs.Table.{fit}
 use Rattle.sheet.specs.Decode.{transitionForm, lastAt, commonOf, sheetOf}
-use Rattle.sheet.specs.Reading.{lastOf, sheetLayout}
+use Rattle.sheet.specs.Reading.{transitionsOf, lastOf, sheetLayout}
 use Rattle.sheet.specs.Log.{Event}
 use Rattle.sheet.proofs.Accepted.{Accepted, accepted, bounds, sheet-triple}
 use Rattle.sheet.proofs.Tables.{and-parts}
@@ -32,6 +32,7 @@ use Rattle.step.proofs.Lists.{Among, any-map, first-passes, kept-passes}
 use Rattle.step.proofs.Searching.{any-place}
 use Rattle.step.proofs.Keeping.{every-among, keep-map, place-map, image-at, first-place, any-weaker, keep-same, one-fewer, number-least}
 use Rattle.step.proofs.Bridge.{conditionPlaces, after-meets}
+use Rattle.step.proofs.Moving.{moved-fits}
 use Rattle.step.proofs.Rooms.{take-fit, take-fitted}
 use Rattle.monitor.specs.declared.Arms.{Arms}
 use Rattle.monitor.specs.declared.WatchState.{WatchState}
@@ -42,7 +43,6 @@ use Rattle.monitor.specs.Padded.{zeroArms, padArms, pad, view}
 use Rattle.monitor.specs.Walk.{tablesOf, Prepared, Ready, movedTo, failsAt, keepBeside}
 use Rattle.monitor.proofs.Broken.{noTriple}
 use Rattle.monitor.proofs.Calls.{free}
-use Rattle.monitor.proofs.Moving.{moved-fits}
 use Rattle.monitor.proofs.Triples.{triple-there}
 
 -- What stands beside those of a list's images that pass a test.
@@ -210,7 +210,7 @@ module _ {s : List ℕ} (a : Accepted sheetLayout s) (σ : State) (e : Event) (h
   left-is : (d : Call) (f : Arms) → leftBy s (tablesOf s) (conditionPlaces s) e d f (pad σ) ≡ pad (exited (sheetOf s) σ e)
   unfolding pad exited verdict sheetOf commonOf
   left-is d f =
-      let m = moved-fits a (σ .configuration) e variables-many in
+      let m = moved-fits (commonOf s) (transitionsOf sheetLayout s) (bounds a .monitors) (σ .configuration) e variables-many in
       let judged : ℕ → Option ℕ → Outcome = λ main t. outcomeOf (verdictFor (commonOf s .bad) (σ .position + 1) main t) in
       let outcome = ap₂ judged (ap (λ (r : Moved). r .main) m) (judged-right d f) in
       λ i. record {

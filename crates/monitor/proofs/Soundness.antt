@@ -7,28 +7,24 @@ use Prim.Native.Nat.{ℕ, zero, suc, _+_, _<_}
 use native.Mathlib.Omega.{arith}
 use borrow.Author.Tests.{eq-eqb, lt-ltb, le-leb, leb-false}
 use lib.Dec.{eqb, ltb}
-use lib.ListN.{length, getD, length-set, length-map, length-append}
-use Rattle.condition.specs.Tree.{Assignment}
-use Rattle.condition.specs.Parse.{parseAction}
-use Rattle.condition.specs.Meaning.{Environment, performed, assigned}
-use Rattle.sheet.specs.declared.Transition.{Transition}
+use lib.ListN.{length, length-map, length-append}
 use Rattle.sheet.specs.Table.{every}
 use Rattle.sheet.specs.Parts.{Sheet}
-use Rattle.sheet.specs.Decode.{commonOf, sheetOf, transitionOf}
-use Rattle.sheet.specs.Reading.{isBad, lentIn, transitionsOf, sheetLayout}
+use Rattle.sheet.specs.Decode.{commonOf, sheetOf}
+use Rattle.sheet.specs.Reading.{transitionsOf, sheetLayout}
 use Rattle.sheet.specs.Log.{Event}
-use Rattle.sheet.proofs.Accepted.{Accepted, bounds, sheet-transition}
+use Rattle.sheet.proofs.Accepted.{Accepted, bounds}
 use Rattle.sheet.proofs.Tables.{and-parts, and-both, every-append}
 use Rattle.sheet.proofs.Tests.{and-iff, leb-iff, eqb-iff}
 use Rattle.step.specs.Lists.{first, keep, any, least, distinct}
-use Rattle.step.specs.Meets.{acted, performedBy}
-use Rattle.step.specs.Moves.{Configuration, seen, enabled, after, moved}
+use Rattle.step.specs.Moves.{Configuration}
 use Rattle.step.specs.Calls.{Call, isEntry}
-use Rattle.step.specs.Verdicts.{causeOf, placed, verdict, ifThere}
+use Rattle.step.specs.Verdicts.{verdict, ifThere}
 use Rattle.step.proofs.Lists.{any-map, first-passes, kept-passes, least-some}
-use Rattle.step.proofs.Keeping.{every-among, among-every, among-at, every-keep, length-keep, distinct-keep, distinct-more}
+use Rattle.step.proofs.Moving.{sheet-good, moved-main, moved-variables, verdict-fits}
+use Rattle.step.proofs.Keeping.{every-among, among-every, every-keep, length-keep, distinct-keep, distinct-more}
 use Rattle.monitor.specs.Monitor.{Armed, State, fresh, tripleIn, fails, failing, ofNumber, armedBy, entered, exited, refusal, offered, offer}
-use Rattle.monitor.specs.Sound.{callSound, verdictSound, sound}
+use Rattle.monitor.specs.Sound.{callSound, sound}
 use Rattle.monitor.specs.Demand.{Taken, begun, more}
 use Rattle.monitor.proofs.Calls.{free}
 use Rattle.monitor.proofs.Arming.{armed-of, armed-rising, armed-one-state, armed-few}
@@ -40,48 +36,6 @@ fresh-sound {s} a =
     let b = bounds a in
     let C = commonOf s in
     rw (lt-ltb (C .start) (C .states) (b .start), eq-eqb _ (C .monitors) (b .initial), b .startGood)
-
--- A transition leads to a state below Q, and there are as many variables as before.
-length-performed : (r : List Assignment) (E : Environment) → length (performed r E) ≡ length (E .monitors)
-unfolding performed assigned
-length-performed [] E = refl
-length-performed (a ∷ r) E = length-performed r (assigned a E) ∙ length-set (E .monitors) (a .target) _
-
-length-acted : (o : Option (List Assignment)) (E : Environment) → length (performedBy o E) ≡ length (E .monitors)
-length-acted none E = refl
-length-acted (some r) E = length-performed r E
-
-module _ {s : List ℕ} (a : Accepted sheetLayout s) (k : Configuration) (e : Event) where
-  pub moved-main : k .main < commonOf s .states → moved (commonOf s) (transitionsOf sheetLayout s) k e .main < commonOf s .states
-  unfolding moved
-  moved-main h = go (first (enabled (commonOf s) k e) (transitionsOf sheetLayout s)) refl
-    where
-      go : (o : Option Transition) → first (enabled (commonOf s) k e) (transitionsOf sheetLayout s) ≡ o → after (commonOf s) k e o .main < commonOf s .states
-      go none f = h
-      go (some t) f =
-          let (i, j, x) = among-at (transitionOf []) (transitionsOf sheetLayout s) t (first-passes (enabled (commonOf s) k e) (transitionsOf sheetLayout s) t f .0) in
-          let g = sheet-transition a i (transitionOf []) j in
-          rw x at (g .to)
-
-  pub moved-variables : length (moved (commonOf s) (transitionsOf sheetLayout s) k e .variables) ≡ length (k .variables)
-  unfolding moved acted
-  moved-variables = go (first (enabled (commonOf s) k e) (transitionsOf sheetLayout s))
-    where
-      go : (o : Option Transition) → length (after (commonOf s) k e o .variables) ≡ length (k .variables)
-      go none = refl
-      go (some t) = length-acted (parseAction (lentIn (commonOf s)) (getD (commonOf s .actions) (t .action) [])) (seen e k)
-
--- The verdict that an event brings, from a triple that exists.
-verdict-sound : (S : Sheet) (main position : ℕ) (t : Option ℕ) → ifThere t (λ i. ltb i (length (S .triples))) ≡ true → verdictSound S main position (verdict (S .common) position main t) ≡ true
-unfolding verdict
-verdict-sound S main position t h = go (isBad (S .common .bad) main) refl t h
-  where
-    go : (b : Bool) → isBad (S .common .bad) main ≡ b → (o : Option ℕ) → ifThere o (λ i. ltb i (length (S .triples))) ≡ true
-        → verdictSound S main position (placed position (causeOf (cond b (some main) none) o)) ≡ true
-    go true e none k = rw (e, eq-eqb position position refl, eq-eqb main main refl)
-    go true e (some i) k = rw (e, k, eq-eqb position position refl, eq-eqb main main refl)
-    go false e none k = rw e
-    go false e (some i) k = rw (k, eq-eqb position position refl)
 
 -- the triple that fails is armed, so it exists
 failing-there : (S : Sheet) (k : Configuration) (e : Event) (l : List Armed) → every (callSound S) l ≡ true → ifThere (failing S k e (first (ofNumber (e .number)) l)) (λ i. ltb i (length (S .triples))) ≡ true
@@ -101,17 +55,19 @@ failing-there S k e l h = go (first (ofNumber (e .number)) l) refl
 
 -- An exit keeps a sound state sound.
 pub exited-sound : {s : List ℕ} → Accepted sheetLayout s → (σ : State) (e : Event) → sound (sheetOf s) σ ≡ true → sound (sheetOf s) (exited (sheetOf s) σ e) ≡ true
-unfolding sound exited sheetOf
+unfolding sound exited sheetOf verdict
 exited-sound {s} a σ e h =
+    let C = commonOf s in
+    let ts = transitionsOf sheetLayout s in
     let (m, (v, (c, (d, (k, w))))) = simp (and-iff, leb-iff, eqb-iff) at h in
     let q : Armed → Bool = λ b. not (ofNumber (e .number) b) in
     let few = length-keep q (σ .calls) in
-    and-both (lt-ltb _ _ (moved-main a (σ .configuration) e m))
-    (and-both (eq-eqb _ _ (moved-variables a (σ .configuration) e ∙ v))
+    and-both (lt-ltb _ _ (moved-main C ts (λ t i. sheet-good a t i .to) (σ .configuration) e m))
+    (and-both (eq-eqb _ _ (moved-variables C ts (σ .configuration) e ∙ v))
     (and-both (le-leb (length (keep q (σ .calls))) 16 (omega arith))
     (and-both (distinct-keep (λ (b : Armed). b .call .number) q (σ .calls) d)
     (and-both (every-keep q (callSound (sheetOf s)) (σ .calls) k)
-    (verdict-sound (sheetOf s) _ (σ .position + 1) _ (failing-there (sheetOf s) (σ .configuration) e (σ .calls) k))))))
+    (verdict-fits (C .bad) (length (sheetOf s .triples)) _ (σ .position + 1) _ (failing-there (sheetOf s) (σ .configuration) e (σ .calls) k))))))
 
 -- An entry that is taken keeps a sound state sound.
 module _ {s : List ℕ} (a : Accepted sheetLayout s) (σ : State) (e : Event) where
@@ -128,8 +84,10 @@ module _ {s : List ℕ} (a : Accepted sheetLayout s) (σ : State) (e : Event) wh
       (and-both (among-every (λ i. ltb i (length (S .triples)) && eqb (tripleIn S i .unit) (e .unit)) (armedBy S k e) (λ i m. and-both (lt-ltb _ _ (armed-of S k e i m .0)) (eq-eqb _ _ (armed-of S k e i m .2)))) (armed-one-state S k e)))))
 
   pub entered-sound : sound (sheetOf s) σ ≡ true → refusal (sheetOf s) σ e ≡ 0 → isEntry e ≡ true → sound (sheetOf s) (entered (sheetOf s) σ e) ≡ true
-  unfolding sound entered sheetOf every
+  unfolding sound entered sheetOf every verdict
   entered-sound h z y =
+      let C = commonOf s in
+      let ts = transitionsOf sheetLayout s in
       let f = free (sheetOf s) σ e z in
       let (m, (v, (c, (d, (k, w))))) = simp (and-iff, leb-iff, eqb-iff) at h in
       let new : Armed = record { call = record { number = e .number; unit = e .unit; kept = e .values }; armed = armedBy (sheetOf s) (σ .configuration) e } in
@@ -138,12 +96,12 @@ module _ {s : List ℕ} (a : Accepted sheetLayout s) (σ : State) (e : Event) wh
       let long = length-map (σ .calls) (λ (b : Armed). b .call) in
       let longer = length-append (σ .calls) (new ∷ []) in
       let apart = any-map (λ n. eqb n (e .number)) (λ (b : Armed). b .call .number) (σ .calls) ∙ sym (any-map (λ (b : Call). eqb (b .number) (e .number)) (λ (b : Armed). b .call) (σ .calls)) ∙ shut in
-      and-both (lt-ltb _ _ (moved-main a (σ .configuration) e m))
-      (and-both (eq-eqb _ _ (moved-variables a (σ .configuration) e ∙ v))
+      and-both (lt-ltb _ _ (moved-main C ts (λ t i. sheet-good a t i .to) (σ .configuration) e m))
+      (and-both (eq-eqb _ _ (moved-variables C ts (σ .configuration) e ∙ v))
       (and-both (le-leb (length (σ .calls ++ new ∷ [])) 16 (omega arith))
       (and-both (ap distinct (map-append (λ (b : Armed). b .call .number) (σ .calls) (new ∷ [])) ∙ distinct-more (map (λ (b : Armed). b .call .number) (σ .calls)) (e .number) d apart)
       (and-both (every-append (callSound (sheetOf s)) (σ .calls) (new ∷ []) ∙ and-both k (and-both (armed-sound (f .unit) (f .values)) refl))
-      (verdict-sound (sheetOf s) _ (σ .position + 1) none refl)))))
+      (verdict-fits (C .bad) (length (sheetOf s .triples)) _ (σ .position + 1) none refl)))))
 
   -- "The state comes back as it went in" where the event is refused; a taken one keeps it sound.
   pub offer-sound : sound (sheetOf s) σ ≡ true → sound (sheetOf s) (offer (sheetOf s) σ e .state) ≡ true

@@ -1,10 +1,10 @@
 -- What the private functions promise.
 use mathlib.Core.Path.{_≡_}
 use mathlib.Core.Bool.{Bool, true, not, cond, _&&_}
-use mathlib.Core.List.{List, [], _∷_, _++_}
+use mathlib.Core.List.{List, [], _∷_}
 use Prim.Native.Nat.{ℕ, _+_, _*_}
 use lib.Dec.{eqb}
-use lib.ListN.{take, drop}
+use lib.ListN.{drop}
 use Rattle.condition.specs.Meaning.{Environment}
 use Rattle.sheet.specs.declared.Triple.{Triple}
 use Rattle.sheet.specs.Decode.{transitionForm, tripleForm, transitionsAt, lastAt, commonOf, sheetOf}
@@ -12,7 +12,8 @@ use Rattle.sheet.specs.Reading.{reading, sheetLayout}
 use Rattle.sheet.specs.Log.{Event}
 use Rattle.sheet.specs.Answer.{headerOf, placesOf}
 use Rattle.step.specs.declared.Moved.{Moved}
-use Rattle.step.specs.Moves.{Configuration, moved}
+use Rattle.step.specs.Moves.{Configuration}
+use Rattle.step.specs.Walk as Walk
 use Rattle.step.specs.Walk.{meetsAt}
 use Rattle.monitor.specs.declared.event.Tables.{Tables}
 use Rattle.monitor.specs.declared.WatchState.{WatchState}
@@ -47,10 +48,10 @@ pub record Unrefused (s : List ℕ) (t : Tables) (c : List ℕ) (w : WatchState)
 
 -- the main state and the variables after an event, with what stands behind the variables
 abbrev pub movedFrom : List ℕ → ℕ → List ℕ → Event → Configuration
-movedFrom s main variables e = moved (commonOf s) (sheetOf s .transitions) (record { main = main; variables = take (commonOf s .monitors) variables }) e
+movedFrom s = Walk.movedFrom (commonOf s) (sheetOf s .transitions)
 
 abbrev pub movedTo : List ℕ → ℕ → List ℕ → Event → Moved
-movedTo s main variables e = record { main = movedFrom s main variables e .main; variables = movedFrom s main variables e .variables ++ drop (commonOf s .monitors) variables }
+movedTo s = Walk.movedTo (commonOf s) (sheetOf s .transitions)
 
 -- a triple of a state and unit whose precondition holds
 abbrev pub armsAt : List ℕ → List ℕ → ℕ → ℕ → Environment → Triple → Bool

@@ -199,10 +199,10 @@ enabled-same a few k e p m {t} g =
     rw (guard-meets a few (t .condition) (g .condition) (g .noEntry) (e .values) (k .variables) p m)
     (and-assoc (eqb (t .from) (k .main)) _ _ ∙ ap (λ b. eqb (t .from) (k .main) && b) (and-assoc (eqb (t .kind) (e .kind)) _ _))
 
-noTransition : Transition
+pub noTransition : Transition
 noTransition = transitionOf []
 
-noPaired : Paired
+pub noPaired : Paired
 noPaired = record { base = transitionOf []; pairs = [] }
 
 -- The first transition that can be taken: of a sheet, and of a network.

@@ -8,3 +8,4 @@ pub mod Turns
 pub mod Rooms
 pub mod Keeping
 pub mod Bridge
+pub mod Moving

@@ -1,7 +1,7 @@
 -- What the operations on the bytes answer, for all bytes and all indexes. On accepted ones they are the definitions of Meets and Moves.
 use mathlib.Core.Bool.{Bool, false, cond, _&&_}
 use mathlib.Core.Option.{Option, none, some}
-use mathlib.Core.List.{List, [], _∷_}
+use mathlib.Core.List.{List, [], _∷_, _++_}
 use Prim.Native.Nat.{ℕ, zero, suc, _+_, _*_, min}
 use lib.Dec.{ltb, eqb}
 use lib.ListN.{getD, take, drop}
@@ -10,9 +10,11 @@ use Rattle.condition.specs.Answer.{Outcome, refused, given, conditionOutcome, a
 use Rattle.sheet.specs.declared.Transition.{Transition}
 use Rattle.sheet.specs.Bytes.{byte}
 use Rattle.sheet.specs.Table.{Form}
+use Rattle.sheet.specs.Parts.{Common}
 use Rattle.sheet.specs.Decode.{textForm, transitionOf}
 use Rattle.sheet.specs.declared.Record.{Record}
 use Rattle.sheet.specs.Log.{Event}
+use Rattle.step.specs.Moves.{Configuration, moved}
 use Rattle.step.specs.Calls as Calls
 use Rattle.step.specs.declared.Call.{Call}
 use Rattle.step.specs.declared.Key.{Key}
@@ -67,6 +69,13 @@ eventOf r values = record { kind = r .kind; unit = r .unit; number = r .number; 
 abbrev pub movedAt : List ℕ → List ℕ → Found → List ℕ → ℕ → List ℕ → ℕ → Moved
 movedAt s index Nothing values main variables count = record { main = main; variables = variables }
 movedAt s index (At p) values main variables count = let t = transitionOf (drop p s) in record { main = t .to; variables = actedAt s index (t .action) values count variables }
+
+-- the main state and the variables after an event, with what stands behind the variables
+abbrev pub movedFrom : Common → List Transition → ℕ → List ℕ → Event → Configuration
+movedFrom C ts main variables e = moved C ts (record { main = main; variables = take (C .monitors) variables }) e
+
+abbrev pub movedTo : Common → List Transition → ℕ → List ℕ → Event → Moved
+movedTo C ts main variables e = record { main = movedFrom C ts main variables e .main; variables = movedFrom C ts main variables e .variables ++ drop (C .monitors) variables }
 
 -- a byte's number, or none for what is past a byte
 abbrev pub numberIn : ℕ → Option ℕ
