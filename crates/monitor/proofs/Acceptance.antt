@@ -21,8 +21,10 @@ use Rattle.step.specs.declared.Verdict.{Verdict}
 use Rattle.step.specs.declared.RunAnswer.{RunAnswer}
 use Rattle.step.specs.declared.RunAnswer.the-variants as answer
 use Rattle.step.specs.Meets.{meets}
-use Rattle.monitor.specs.Monitor.{State, tripleIn, Ran, violated, clean, refusedAt, run}
-use Rattle.monitor.specs.Answers.{ranAnswer, runOf}
+use Rattle.step.specs.Runs.{Ran, violated, clean, refusedAt}
+use Rattle.step.specs.Answers.{ranAnswer}
+use Rattle.monitor.specs.Monitor.{State, tripleIn, run}
+use Rattle.monitor.specs.Answers.{endsIn, runOf}
 use Rattle.monitor.specs.Demand.{Published, Answered}
 use Rattle.monitor.proofs.Broken.{Plain, noTriple}
 use Rattle.monitor.proofs.Published.{published}
@@ -73,17 +75,17 @@ caseOf (answer.Clean n q k) = 1
 caseOf (answer.Refused n) = 2
 caseOf (answer.RefusedAt n i) = 3
 
-back-violated : (r : Ran) (v : Verdict) → ranAnswer r ≡ answer.Violated v → r ≡ violated v
+back-violated : (r : Ran State) (v : Verdict) → ranAnswer endsIn r ≡ answer.Violated v → r ≡ violated v
 back-violated (violated u) v e = ap violated (cc)
 back-violated (clean σ) v e = absurd (omega (arith, ap caseOf e))
 back-violated (refusedAt m j) v e = absurd (omega (arith, ap caseOf e))
 
-back-refused : (r : Ran) (n i : ℕ) → ranAnswer r ≡ answer.RefusedAt n i → r ≡ refusedAt n i
+back-refused : (r : Ran State) (n i : ℕ) → ranAnswer endsIn r ≡ answer.RefusedAt n i → r ≡ refusedAt n i
 back-refused (violated u) n i e = absurd (omega (arith, ap caseOf e))
 back-refused (clean σ) n i e = absurd (omega (arith, ap caseOf e))
 back-refused (refusedAt m j) n i e = ap₂ refusedAt (cc) (cc)
 
-back-clean : (r : Ran) (n q k : ℕ) → ranAnswer r ≡ answer.Clean n q k → (σ : State) × (r ≡ clean σ) × (σ .position ≡ n) × (σ .configuration .main ≡ q) × (length (σ .calls) ≡ k)
+back-clean : (r : Ran State) (n q k : ℕ) → ranAnswer endsIn r ≡ answer.Clean n q k → (σ : State) × (r ≡ clean σ) × (σ .position ≡ n) × (σ .configuration .main ≡ q) × (length (σ .calls) ≡ k)
 back-clean (violated u) n q k e = absurd (omega (arith, ap caseOf e))
 back-clean (clean σ) n q k e = (σ, refl, cc, cc, cc)
 back-clean (refusedAt m j) n q k e = absurd (omega (arith, ap caseOf e))
@@ -94,12 +96,12 @@ answer-published s log a l =
     let es = eventsOf (byte s 5) log in
     let p = accepted-published s a es in
     let r = run (sheetOf s) es in
-    let same : runOf s log ≡ ranAnswer r = rw (a, l) in
+    let same : runOf s log ≡ ranAnswer endsIn r = rw (a, l) in
     record {
-      whenViolated = λ v. (λ e. p .whenViolated v .0 (back-violated r v (sym same ∙ e)), λ h. same ∙ ap ranAnswer (p .whenViolated v .1 h));
-      whenRefused = λ n i. (λ e. p .whenRefused n i .0 (back-refused r n i (sym same ∙ e)), λ h. same ∙ ap ranAnswer (p .whenRefused n i .1 h));
+      whenViolated = λ v. (λ e. p .whenViolated v .0 (back-violated r v (sym same ∙ e)), λ h. same ∙ ap (ranAnswer endsIn) (p .whenViolated v .1 h));
+      whenRefused = λ n i. (λ e. p .whenRefused n i .0 (back-refused r n i (sym same ∙ e)), λ h. same ∙ ap (ranAnswer endsIn) (p .whenRefused n i .1 h));
       whenClean = λ n q k. (
         λ e. let (σ, f, x, y, z) = back-clean r n q k (sym same ∙ e) in (σ, p .whenClean σ .0 f, x, y, z),
-        λ h. same ∙ ap ranAnswer (p .whenClean (h .0) .1 (h .1)) ∙ rw (h .2, h .3, h .4),
+        λ h. same ∙ ap (ranAnswer endsIn) (p .whenClean (h .0) .1 (h .1)) ∙ rw (h .2, h .3, h .4),
       );
     }

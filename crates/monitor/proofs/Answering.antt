@@ -32,9 +32,10 @@ use Rattle.monitor.specs.declared.event.Tables.{Tables}
 use Rattle.monitor.specs.Monitor as Monitor
 use Rattle.monitor.specs.Padded.{zeroArms, pad, view, soundState}
 use Rattle.step.specs.Padding.{zeroCall}
-use Rattle.step.specs.Answers.{answerOf, unlessRefused}
+use Rattle.step.specs.Answers.{ranAnswer, unlessRefused}
+use Rattle.step.proofs.Runs.{refused-with}
 use Rattle.step.proofs.Rooms.{length-fit}
-use Rattle.monitor.specs.Answers.{offerRefusal, whenTaken, offerOf, ranAnswer, runOf}
+use Rattle.monitor.specs.Answers.{offerRefusal, offerOf, endsIn, runOf}
 use Rattle.monitor.specs.Walk.{Prepared, Ready}
 use Rattle.monitor.proofs.Calls.{free, offer-taken}
 use Rattle.monitor.proofs.Views.{view-calls}
@@ -75,10 +76,6 @@ module _ (S : _) (σ : Monitor.State) (event : Record) (values : List ℕ) (z : 
 abbrev offeredWith : Answer → WatchState → Offered
 offeredWith a w = record { answer = a; state = w }
 
-refused-with : (n : ℕ) → (n ≡ 0 → ⊥) → (w τ : WatchState) → offeredWith (offer.Refused n) w ≡ offeredWith (answerOf n) (whenTaken n w τ)
-refused-with zero k w τ = absurd (k refl)
-refused-with (suc n) k w τ = refl
-
 module _ (s : List ℕ) (w : WatchState) (event : Record) (values : List ℕ) where
   module _ (a : reading sheetLayout s ≡ 0) where
     pub unsound : soundState (sheetOf s) w ≡ false → offeredWith (offer.Refused 9) w ≡ offerOf s w (eventOf event values)
@@ -92,7 +89,7 @@ module _ (s : List ℕ) (w : WatchState) (event : Record) (values : List ℕ) wh
 
       pub offer-refuses : (n ≡ 0 → ⊥) → offeredWith (offer.Refused n) w ≡ offerOf s w (eventOf event values)
       unfolding offerOf offerRefusal
-      offer-refuses k = rw (a, h, ← e) (refused-with n k w _)
+      offer-refuses k = rw (a, h, ← e) (refused-with offeredWith n k w _)
 
 -- a sheet that is not read
 abbrev asOffered : Reading → Answer
@@ -137,7 +134,7 @@ module _ (s l : List ℕ) (h : Header) (eh : h ≡ headerOf s) (r : LogReading) 
       go (suc m) e = absurd (false≢true (ap isRecords e))
 
   module _ (a : reading sheetLayout s ≡ 0) where
-    pub run-follows : (n : ℕ) → r ≡ log.Records n → (x : RunAnswer) → x ≡ ranAnswer (Monitor.run (sheetOf s) (eventsOf (byte s 5) l)) → x ≡ runOf s l
+    pub run-follows : (n : ℕ) → r ≡ log.Records n → (x : RunAnswer) → x ≡ ranAnswer endsIn (Monitor.run (sheetOf s) (eventsOf (byte s 5) l)) → x ≡ runOf s l
     unfolding runOf
     run-follows n e x f = rw (a, log-read n e) f
 
@@ -145,6 +142,6 @@ module _ (s l : List ℕ) (h : Header) (eh : h ≡ headerOf s) (r : LogReading) 
     unfolding runOf
     run-unlogged n e = rw a (go (logReading (byte s 5) l) (sym answered ∙ e))
       where
-        go : (m : ℕ) → logAnswer m (recordsIn (byte s 5) l) ≡ log.Refused n → run.Refused n ≡ unlessRefused m (ranAnswer (Monitor.run (sheetOf s) (eventsOf (byte s 5) l)))
+        go : (m : ℕ) → logAnswer m (recordsIn (byte s 5) l) ≡ log.Refused n → run.Refused n ≡ unlessRefused m (ranAnswer endsIn (Monitor.run (sheetOf s) (eventsOf (byte s 5) l)))
         go zero e = absurd (false≢true (sym (ap isRecords e)))
         go (suc m) e = ap asLogged (sym e)

@@ -9,42 +9,45 @@ use Rattle.sheet.specs.Parts.{Sheet}
 use Rattle.sheet.specs.Log.{Event}
 use Rattle.step.specs.declared.Verdict.{Verdict}
 use Rattle.step.specs.Verdicts.{tripleIn}
+use Rattle.step.specs.Runs.{Ran, violated, clean, refusedAt, runFrom}
 use Rattle.step.proofs.Causes.{verdict-same}
-use Rattle.monitor.specs.Monitor.{State, fresh, refusal, offer, Ran, violated, clean, refusedAt, runFrom, run}
+use Rattle.step.proofs.Runs.{offered-answer, turn-refused, turn-judged, turn-on}
+use Rattle.monitor.specs.Monitor.{State, fresh, refusal, offer, run}
 use Rattle.monitor.specs.Published.{reached, Counterexample}
 use Rattle.monitor.specs.Demand.{Taken, begun, more, Lowest, Finds, Violated, Clean, Refused, Published}
 use Rattle.monitor.proofs.Calls.{holds, unjudged}
 use Rattle.monitor.proofs.Broken.{Plain}
 use Rattle.monitor.proofs.Found.{judged-finds, unjudged-none, taken-clear, clear-unjudged}
 
+-- the rest of a run, from a state on
+abbrev pub runs : Sheet → ℕ → State → List Event → Ran State
+runs S = runFrom (offer S) (λ σ. σ .verdict)
+
 -- One turn of a run.
 module _ (S : Sheet) (i : ℕ) (σ : State) (e : Event) (es : List Event) where
-  run-refused : (n : ℕ) → refusal S σ e ≡ suc n → runFrom S i σ (e ∷ es) ≡ refusedAt (suc n) i
-  unfolding runFrom offer
-  run-refused n h = rw h
+  answer-is : offer S σ e .answer ≡ refusal S σ e
+  unfolding offer
+  answer-is = offered-answer (refusal S σ e) σ _
+
+  run-refused : (n : ℕ) → refusal S σ e ≡ suc n → runs S i σ (e ∷ es) ≡ refusedAt (suc n) i
+  run-refused n h = turn-refused (offer S) (λ σ. σ .verdict) i σ e es n (answer-is ∙ h)
 
   module _ (h : refusal S σ e ≡ 0) where
-    answer-taken : offer S σ e .answer ≡ 0
-    unfolding offer
-    answer-taken = rw h
+    run-judged : (v : Verdict) → offer S σ e .state .verdict ≡ some v → runs S i σ (e ∷ es) ≡ violated v
+    run-judged = turn-judged (offer S) (λ σ. σ .verdict) i σ e es (answer-is ∙ h)
 
-    run-judged : (v : Verdict) → offer S σ e .state .verdict ≡ some v → runFrom S i σ (e ∷ es) ≡ violated v
-    unfolding runFrom
-    run-judged v q = rw (answer-taken, q)
-
-    run-on : offer S σ e .state .verdict ≡ none → runFrom S i σ (e ∷ es) ≡ runFrom S (suc i) (offer S σ e .state) es
-    unfolding runFrom
-    run-on q = rw (answer-taken, q)
+    run-on : offer S σ e .state .verdict ≡ none → runs S i σ (e ∷ es) ≡ runs S (suc i) (offer S σ e .state) es
+    run-on = turn-on (offer S) (λ σ. σ .verdict) i σ e es (answer-is ∙ h)
 
 -- A run goes on after events that are taken, up to a verdict, from the state that they lead to.
 module _ (S : Sheet) where
-  pub run-taken : {w : List Event} {σ : State} → Taken S w σ → σ .verdict ≡ none → (es : List Event) → run S (w ++ es) ≡ runFrom S (suc (length w)) σ es
+  pub run-taken : {w : List Event} {σ : State} → Taken S w σ → σ .verdict ≡ none → (es : List Event) → run S (w ++ es) ≡ runs S (suc (length w)) σ es
   unfolding run
   run-taken begun q es = refl
   run-taken (more {w} {σ} t e h) q es =
-      rw (append-assoc w (e ∷ []) es, length-append w (e ∷ [])) (run-taken t (unjudged S σ e h) (e ∷ es) ∙ run-on S (suc (length w)) σ e es h q ∙ ap (λ i. runFrom S i (offer S σ e .state) es) (omega arith))
+      rw (append-assoc w (e ∷ []) es, length-append w (e ∷ [])) (run-taken t (unjudged S σ e h) (e ∷ es) ∙ run-on S (suc (length w)) σ e es h q ∙ ap (λ i. runs S i (offer S σ e .state) es) (omega arith))
 
-data Outcome (S : Sheet) (es : List Event) : Ran → Type 0 where
+data Outcome (S : Sheet) (es : List Event) : Ran State → Type 0 where
   isViolated : {v : Verdict} → Violated S es v → Outcome S es (violated v)
   isClean : {σ : State} → Clean S es σ → Outcome S es (clean σ)
   isRefused : {n i : ℕ} → Refused S es n i → Outcome S es (refusedAt n i)
@@ -55,8 +58,8 @@ module _ (S : Sheet) (plain : Plain S) where
 
   module _ {w : List Event} {σ : State} (t : Taken S w σ) (u : σ .verdict ≡ none) (e : Event) (es : List Event) where
     turn : (r : ℕ) → refusal S σ e ≡ r → (o : Option Verdict) → offer S σ e .state .verdict ≡ o
-        → ((h : refusal S σ e ≡ 0) → offer S σ e .state .verdict ≡ none → Outcome S ((w ++ e ∷ []) ++ es) (runFrom S (suc (length (w ++ e ∷ []))) (offer S σ e .state) es))
-        → Outcome S (w ++ e ∷ es) (runFrom S (suc (length w)) σ (e ∷ es))
+        → ((h : refusal S σ e ≡ 0) → offer S σ e .state .verdict ≡ none → Outcome S ((w ++ e ∷ []) ++ es) (runs S (suc (length (w ++ e ∷ []))) (offer S σ e .state) es))
+        → Outcome S (w ++ e ∷ es) (runs S (suc (length w)) σ (e ∷ es))
     turn zero h none q k =
         let i : suc (length (w ++ e ∷ [])) ≡ suc (suc (length w)) = omega (arith, length-append w (e ∷ [])) in
         let r = rw (append-assoc w (e ∷ []) es, i) at (k h q) in
@@ -69,7 +72,7 @@ module _ (S : Sheet) (plain : Plain S) where
         rw (run-refused S (suc (length w)) σ e es n h)
         (isRefused (record { w = w; e = e; rest = es; parts = refl; state = σ; taken = t; before = taken-clear S plain t u; refused = h; some = λ z. omega arith; place = p }))
 
-  outcome : (es : List Event) {w : List Event} {σ : State} → Taken S w σ → σ .verdict ≡ none → Outcome S (w ++ es) (runFrom S (suc (length w)) σ es)
+  outcome : (es : List Event) {w : List Event} {σ : State} → Taken S w σ → σ .verdict ≡ none → Outcome S (w ++ es) (runs S (suc (length w)) σ es)
   unfolding runFrom
   outcome [] {w} t q = rw (append-nil w) (isClean (clean-taken t q))
   outcome (e ∷ es) {w} {σ} t q = turn t q e es (refusal S σ e) refl (offer S σ e .state .verdict) refl (λ h k. outcome es (more t e h) k)
@@ -93,17 +96,17 @@ module _ (S : Sheet) (plain : Plain S) where
       verdict-same u v (h .position ∙ sym (k .position)) (h .state ∙ sym (k .state)) (lowest-same w (tripleIn (u .cause)) (tripleIn (v .cause)) (h .triple) (k .triple))
 
   module _ (es : List Event) where
-    outcome-violated : (r : Ran) (v : Verdict) → Outcome S es r → r ≡ violated v → Violated S es v
+    outcome-violated : (r : Ran State) (v : Verdict) → Outcome S es r → r ≡ violated v → Violated S es v
     outcome-violated r v (isViolated {v = u} x) q = let p : u ≡ v = cc in subst (λ y. Violated S es y) p x
     outcome-violated r v (isClean x) q = let z : _≡_ {A = ℕ} 0 1 = cc in absurd (omega arith)
     outcome-violated r v (isRefused x) q = let z : _≡_ {A = ℕ} 0 1 = cc in absurd (omega arith)
 
-    outcome-clean : (r : Ran) (σ : State) → Outcome S es r → r ≡ clean σ → Clean S es σ
+    outcome-clean : (r : Ran State) (σ : State) → Outcome S es r → r ≡ clean σ → Clean S es σ
     outcome-clean r σ (isViolated x) q = let z : _≡_ {A = ℕ} 0 1 = cc in absurd (omega arith)
     outcome-clean r σ (isClean {σ = τ} x) q = let p : τ ≡ σ = cc in subst (λ y. Clean S es y) p x
     outcome-clean r σ (isRefused x) q = let z : _≡_ {A = ℕ} 0 1 = cc in absurd (omega arith)
 
-    outcome-refused : (r : Ran) (n i : ℕ) → Outcome S es r → r ≡ refusedAt n i → Refused S es n i
+    outcome-refused : (r : Ran State) (n i : ℕ) → Outcome S es r → r ≡ refusedAt n i → Refused S es n i
     outcome-refused r n i (isViolated x) q = let z : _≡_ {A = ℕ} 0 1 = cc in absurd (omega arith)
     outcome-refused r n i (isClean x) q = let z : _≡_ {A = ℕ} 0 1 = cc in absurd (omega arith)
     outcome-refused r n i (isRefused {n = m} {i = j} x) q =
@@ -114,7 +117,7 @@ module _ (S : Sheet) (plain : Plain S) where
     violated-run : (v : Verdict) → Violated S es v → run S es ≡ violated v
     violated-run v h = rw (h .parts) (run-taken S (h .taken) (unjudged S (h .state) (h .e) (h .taking)) (h .e ∷ h .rest) ∙ judged (offer S (h .state) (h .e) .state .verdict) refl)
       where
-        judged : (o : Option Verdict) → offer S (h .state) (h .e) .state .verdict ≡ o → runFrom S (suc (length (h .w))) (h .state) (h .e ∷ h .rest) ≡ violated v
+        judged : (o : Option Verdict) → offer S (h .state) (h .e) .state .verdict ≡ o → runs S (suc (length (h .w))) (h .state) (h .e ∷ h .rest) ≡ violated v
         judged none q = absurd (unjudged-none S plain (h .taken) (h .e) (h .taking) q (h .finds .counterexample))
         judged (some u) q =
             run-judged S (suc (length (h .w))) (h .state) (h .e) (h .rest) (h .taking) u q
@@ -127,7 +130,7 @@ module _ (S : Sheet) (plain : Plain S) where
     refused-run : (n i : ℕ) → Refused S es n i → run S es ≡ refusedAt n i
     refused-run n i h = rw (h .parts) (run-taken S (h .taken) (clear-unjudged S plain (h .taken) (h .before)) (h .e ∷ h .rest) ∙ stopped n (h .refused) (h .some))
       where
-        stopped : (m : ℕ) → refusal S (h .state) (h .e) ≡ m → (m ≡ 0 → ⊥) → runFrom S (suc (length (h .w))) (h .state) (h .e ∷ h .rest) ≡ refusedAt m i
+        stopped : (m : ℕ) → refusal S (h .state) (h .e) ≡ m → (m ≡ 0 → ⊥) → runs S (suc (length (h .w))) (h .state) (h .e ∷ h .rest) ≡ refusedAt m i
         stopped zero q z = absurd (z refl)
         stopped (suc m) q z = run-refused S (suc (length (h .w))) (h .state) (h .e) (h .rest) m q ∙ ap (λ j. refusedAt (suc m) j) (omega (arith, h .place))
 
@@ -141,9 +144,8 @@ module _ (S : Sheet) (plain : Plain S) where
       }
 
   -- The same, said of the single answers.
-  pub clean-no-counterexample : (w : List Event) (σ : State) → runFrom S 1 (fresh S) w ≡ clean σ
+  pub clean-no-counterexample : (w : List Event) (σ : State) → run S w ≡ clean σ
       → ((u v : List Event) → w ≡ u ++ v → Counterexample S u → ⊥) × (σ .position ≡ length w) × (σ .configuration ≡ reached S w) × (σ .verdict ≡ none)
-  unfolding run
   clean-no-counterexample w σ h = let c = published w .whenClean σ .0 h in (c .clear, c .position, c .configuration, c .unjudged)
 
   -- what was run before a verdict, or before a refusal, was clean

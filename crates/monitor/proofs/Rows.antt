@@ -14,9 +14,10 @@ use Rattle.step.specs.Meets.{meets, acted}
 use Rattle.step.specs.Moves.{enabled, moved}
 use Rattle.step.specs.Calls.{refusals, lowest}
 use Rattle.step.specs.Verdicts.{verdict}
+use Rattle.step.specs.Runs.{Ran, violated, clean, refusedAt, runFrom}
 use Rattle.step.specs.declared.Cause.the-variants as cause
 use Rattle.step.specs.declared.Verdict.{Verdict}
-use Rattle.monitor.specs.Monitor.{fresh, offer, refusal, entered, exited, arms, armedBy, fails, runFrom, Ran, violated, clean, refusedAt, run}
+use Rattle.monitor.specs.Monitor.{State, fresh, offer, refusal, entered, exited, arms, armedBy, fails, run}
 use Rattle.sheet.proofs.Rows.{sheetA}
 
 -- What the program prints of a run: a verdict; how many events, which main state and how many open calls; a refusal and its record.
@@ -25,7 +26,7 @@ pub data Line : Type 0 where
   cleanAfter : ℕ → ℕ → ℕ → Line
   refusedBy : ℕ → ℕ → Line
 
-abbrev pub line : Ran → Line
+abbrev pub line : Ran State → Line
 line (violated v) = violatedAt v
 line (clean σ) = cleanAfter (σ .position) (σ .configuration .main) (length (σ .calls))
 line (refusedAt n i) = refusedBy n i

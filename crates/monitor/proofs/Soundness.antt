@@ -3,7 +3,7 @@ use mathlib.Core.Path.{_≡_, refl, sym, ap, _∙_}
 use mathlib.Core.Bool.{Bool, true, false, not, cond, _&&_}
 use mathlib.Core.Option.{Option, none, some}
 use mathlib.Core.List.{List, [], _∷_, _++_, map, map-append}
-use Prim.Native.Nat.{ℕ, zero, suc, _+_, _<_}
+use Prim.Native.Nat.{ℕ, _+_, _<_}
 use native.Mathlib.Omega.{arith}
 use borrow.Author.Tests.{eq-eqb, lt-ltb, le-leb, leb-false}
 use lib.Dec.{eqb, ltb}
@@ -21,9 +21,10 @@ use Rattle.step.specs.Moves.{Configuration}
 use Rattle.step.specs.Calls.{Call, isEntry}
 use Rattle.step.specs.Verdicts.{verdict, ifThere}
 use Rattle.step.proofs.Lists.{any-map, first-passes, kept-passes, least-some}
+use Rattle.step.proofs.Runs.{offered-keeps}
 use Rattle.step.proofs.Moving.{sheet-good, moved-main, moved-variables, verdict-fits}
 use Rattle.step.proofs.Keeping.{every-among, among-every, every-keep, length-keep, distinct-keep, distinct-more}
-use Rattle.monitor.specs.Monitor.{Armed, State, fresh, tripleIn, fails, failing, ofNumber, armedBy, entered, exited, refusal, offered, offer}
+use Rattle.monitor.specs.Monitor.{Armed, State, fresh, tripleIn, fails, failing, ofNumber, armedBy, entered, exited, refusal, offer}
 use Rattle.monitor.specs.Sound.{callSound, sound}
 use Rattle.monitor.specs.Demand.{Taken, begun, more}
 use Rattle.monitor.proofs.Calls.{free}
@@ -106,12 +107,11 @@ module _ {s : List ℕ} (a : Accepted sheetLayout s) (σ : State) (e : Event) wh
   -- "The state comes back as it went in" where the event is refused; a taken one keeps it sound.
   pub offer-sound : sound (sheetOf s) σ ≡ true → sound (sheetOf s) (offer (sheetOf s) σ e .state) ≡ true
   unfolding offer
-  offer-sound h = go (refusal (sheetOf s) σ e) refl (isEntry e) refl
+  offer-sound h = offered-keeps (sound (sheetOf s)) (refusal (sheetOf s) σ e) σ _ h (go (isEntry e) refl)
     where
-      go : (n : ℕ) → refusal (sheetOf s) σ e ≡ n → (b : Bool) → isEntry e ≡ b → sound (sheetOf s) (offered n σ (cond b (entered (sheetOf s) σ e) (exited (sheetOf s) σ e)) .state) ≡ true
-      go zero z true y = entered-sound h z y
-      go zero z false y = exited-sound a σ e h
-      go (suc n) z b y = h
+      go : (b : Bool) → isEntry e ≡ b → refusal (sheetOf s) σ e ≡ 0 → sound (sheetOf s) (cond b (entered (sheetOf s) σ e) (exited (sheetOf s) σ e)) ≡ true
+      go true y z = entered-sound h z y
+      go false y z = exited-sound a σ e h
 
 -- so every state of a run is sound, and no run meets 9
 pub taken-sound : {s : List ℕ} (a : Accepted sheetLayout s) {w : List Event} {σ : State} → Taken (sheetOf s) w σ → sound (sheetOf s) σ ≡ true

@@ -12,7 +12,8 @@ use Rattle.sheet.specs.Log.{Event, eventsOf}
 use Rattle.step.specs.declared.Verdict.{Verdict}
 use Rattle.step.specs.declared.RunAnswer.the-variants as answer
 use Rattle.step.specs.Verdicts.{badState, stateIn, tripleIn}
-use Rattle.monitor.specs.Monitor.{State, fresh, refusal, offer, violated, clean, refusedAt, run}
+use Rattle.step.specs.Runs.{violated, clean, refusedAt}
+use Rattle.monitor.specs.Monitor.{State, fresh, refusal, offer, run}
 use Rattle.monitor.specs.Published.{reached, Breaks, Counterexample}
 use Rattle.monitor.specs.Answers.{runOf}
 

@@ -2,7 +2,7 @@
 use mathlib.Core.Bool.{Bool, not, cond, _&&_}
 use mathlib.Core.Option.{Option, none, some}
 use mathlib.Core.List.{List, [], _∷_, _++_, map}
-use Prim.Native.Nat.{ℕ, zero, suc, _+_}
+use Prim.Native.Nat.{ℕ, _+_}
 use lib.Dec.{eqb}
 use lib.ListN.{getD}
 use Rattle.condition.specs.Meaning.{environment}
@@ -15,6 +15,7 @@ use Rattle.step.specs.Meets.{meets}
 use Rattle.step.specs.Moves.{Configuration, seen, moved}
 use Rattle.step.specs.Calls.{Call, isEntry, refusals, lowest}
 use Rattle.step.specs.Verdicts.{verdict, isJudged}
+use Rattle.step.specs.Runs.{Offered, offered, Ran, runFrom}
 
 -- an open call with the numbers of the triples armed for it
 pub record Armed : Type 0 where
@@ -84,40 +85,8 @@ exited S σ e =
 unfoldable pub refusal : Sheet → State → Event → ℕ
 refusal S σ e = lowest (refusals (S .common) (isJudged (σ .verdict)) (σ .position) (map (λ a. a .call) (σ .calls)) e)
 
--- what an event comes to: 0 where it is taken, or the refusal's number, and the state that comes back
-pub record Offered : Type 0 where
-  pub answer : ℕ
-  pub state : State
-
--- "An event that meets one of 10-15 is refused with the lowest and changes nothing; any other is taken"
-abbrev pub offered : ℕ → State → State → Offered
-offered zero σ τ = record { answer = 0; state = τ }
-offered (suc n) σ τ = record { answer = suc n; state = σ }
-
-unfoldable pub offer : Sheet → State → Event → Offered
+unfoldable pub offer : Sheet → State → Event → Offered State
 offer S σ e = offered (refusal S σ e) σ (cond (isEntry e) (entered S σ e) (exited S σ e))
 
--- what a run comes to
-pub data Ran : Type 0 where
-  violated : Verdict → Ran
-  clean : State → Ran
-  refusedAt : ℕ → ℕ → Ran
-
-abbrev pub unlessJudged : Option Verdict → Ran → Ran
-unlessJudged none rest = rest
-unlessJudged (some v) rest = violated v
-
-abbrev pub unlessRefused : ℕ → ℕ → Ran → Ran
-unlessRefused zero i rest = rest
-unlessRefused (suc n) i rest = refusedAt (suc n) i
-
--- "Then events until a verdict; a refused event ends the run with its number and record, from 1. Records after a verdict aren't judged."
-unfoldable pub runFrom : Sheet → ℕ → State → List Event → Ran
-runFrom S i σ [] = clean σ
-runFrom S i σ (e ∷ es) =
-    let o = offer S σ e in
-    let rest = runFrom S (suc i) (o .state) es in
-    unlessRefused (o .answer) i (unlessJudged (o .state .verdict) rest)
-
-unfoldable pub run : Sheet → List Event → Ran
-run S es = runFrom S 1 (fresh S) es
+unfoldable pub run : Sheet → List Event → Ran State
+run S es = runFrom (offer S) (λ σ. σ .verdict) 1 (fresh S) es

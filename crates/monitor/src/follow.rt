@@ -7,9 +7,10 @@ ghost use Rattle.sheet.specs.Bytes.{byte};
 ghost use Rattle.sheet.specs.Decode.{sheetOf};
 ghost use Rattle.sheet.specs.Reading.{reading, sheetLayout};
 ghost use Rattle.sheet.specs.Log.{logReading, eventsOf};
+ghost use Rattle.step.specs.Answers.{ranAnswer};
 ghost use Rattle.step.specs.Walk.{eventOf};
 ghost use Rattle.monitor.specs.Monitor as Monitor;
-ghost use Rattle.monitor.specs.Answers.{ranAnswer, offerOf, runOf};
+ghost use Rattle.monitor.specs.Answers.{offerOf, endsIn, runOf};
 ghost use Rattle.monitor.specs.Padded.{soundState};
 ghost use Rattle.monitor.specs.Walk.{Prepared, Ready, actionsOf};
 use crate::Offered;
@@ -90,7 +91,7 @@ pub(crate) fn run_accepted(s: &[u8], log: &[u8]) -> RunAnswer
 // Follows the records of a log from the fresh state.
 fn follow(s: &[u8], t: Tables, conditions: &[u32; 65], actions: &[u32; 65], log: &[u8]) -> RunAnswer
     requires { ⌜ Prepared (now s) t (now conditions) × (now actions ≡ actionsOf (now s)) × (logReading (byte (now s) 5) (now log) ≡ 0) ⌝ }
-    ensures { λ r. ⌜ r ≡ ranAnswer (Monitor.run (sheetOf (now (s .entry))) (eventsOf (byte (now (s .entry)) 5) (now (log .entry)))) ⌝ }
+    ensures { λ r. ⌜ r ≡ ranAnswer endsIn (Monitor.run (sheetOf (now (s .entry))) (eventsOf (byte (now (s .entry)) 5) (now (log .entry)))) ⌝ }
 {
     let h = t.header;
     let count = wide(h.programs);

@@ -9,3 +9,5 @@ pub mod Rooms
 pub mod Keeping
 pub mod Bridge
 pub mod Moving
+pub mod Runs
+pub mod Following

@@ -6,4 +6,5 @@ pub mod Calls
 pub mod Verdicts
 pub mod Walk
 pub mod Padding
+pub mod Runs
 pub mod Answers

@@ -5,15 +5,19 @@ use native.Mathlib.Omega.{arith}
 use borrow.Author.Needs.{needs}
 use lib.ListN.{length}
 use lib.Seq.{length-take-le}
+use Rattle.sheet.specs.Bytes.{byte}
 use Rattle.sheet.specs.Reading.{sheetLayout}
 use Rattle.sheet.proofs.Accepted.{accepted}
+use Rattle.step.proofs.Following.{event-there, Following, follow-start, follow-ready, follow-end, follow-room, follow-refused, follow-violated, follow-next}
+use Rattle.monitor.specs.Walk.{Ready}
 use Rattle.monitor.proofs.Moving.{programs-few}
-use Rattle.monitor.proofs.Following.{event-there, values-count, record-size, Following, follow-start, follow-ready, follow-end, follow-room, follow-refused, follow-violated, follow-next}
+use Rattle.monitor.proofs.Views.{ready-pad}
+use Rattle.monitor.proofs.Following.{engine, works, values-count, record-size}
 use Rattle.monitor.proofs.follow.follow.Statement.{statement}
 use Rattle.monitor.proofs.follow.follow.Tie as tie
 
 abbrev Inv-loop : tie.InvT-loop
-Inv-loop s t conditions actions log h count size end state₀ i₀ at₀ state i at = Following s log state i at end
+Inv-loop s t conditions actions log h count size end state₀ i₀ at₀ state i at = Following (engine s) (byte s 5) log state i at end
 
 abbrev μ-loop : tie.MeasureT-loop
 μ-loop s t conditions actions log h count size end state₀ i₀ at₀ state i at = end - at
@@ -24,7 +28,7 @@ loop-holds c =
     let p = b .pre in
     let a = accepted sheetLayout (b .args .s .now) (p .0 .accepted) in
     let small : c .before .word-at .result < 4294967296 = search needs in
-    follow-start a (b .args .log .now) (p .2) _ (c .started .ensures) _ (c .before .word-at .ensures) small
+    follow-start (works a) _ (b .args .log .now) (p .2) _ (c .started .ensures) _ (c .before .word-at .ensures) small
 
 add-words-at : tie.Need-add-words-at Inv-loop μ-loop
 add-words-at c =
@@ -33,7 +37,7 @@ add-words-at c =
     let a = accepted sheetLayout (b .args .s .now) (p .0 .accepted) in
     let g = c .before .before .loop .inv in
     let h = c .before .loop-test .taken in
-    let room = follow-room a (b .args .log .now) _ _ _ _ g h in
+    let room = follow-room (works a) _ (b .args .log .now) _ _ _ _ g h in
     let small : c .before .before .loop .at + 4 < 4294967296 = omega (arith, g .fits) in
     search (needs, small)
 
@@ -54,7 +58,7 @@ refusal-requires c κs =
     let b = c .before .before .before .before .before .before .before .before .before .before .before .before in
     let p = b .pre in
     let a = accepted sheetLayout (b .args .s .now) (p .0 .accepted) in
-    (p .0, follow-ready a (b .args .log .now) _ _ _ _ (c .before .before .before .before .loop .inv))
+    (p .0, follow-ready (works a) _ (b .args .log .now) _ _ _ _ (c .before .before .before .before .loop .inv) (Ready (b .args .s .now)) (ready-pad a))
 
 add-i : tie.Need-add-i Inv-loop μ-loop
 add-i c =
@@ -74,14 +78,14 @@ returns c =
     let count = values-count (p .0) _ (c .before .before .before .before .before .before .before .before .before .before .wide .ensures .0) in
     let programs = values-count (p .0) _ refl in
     let there = event-there _ (rw programs at few) (b .args .log .now) (c .before .before .before .before .before .before .loop .at) _ (c .before .before .before .before .record-at .ensures) _ count _ programs _ (c .before .before .before .words-at .ensures) in
-    follow-refused a (b .args .log .now) _ _ _ _ g h _ there _ (c .before .refusal .ensures) (c .if1 .left)
+    follow-refused (works a) _ (b .args .log .now) _ _ _ _ g h _ there _ (c .before .refusal .ensures) (c .if1 .left)
 
 taken-requires : tie.Need-taken-requires Inv-loop μ-loop
 taken-requires c κs =
     let b = c .before .before .before .before .before .before .before .before .before .before .before .before .before .before in
     let p = b .pre in
     let a = accepted sheetLayout (b .args .s .now) (p .0 .accepted) in
-    (record { prepared = p .0; ready = follow-ready a (b .args .log .now) _ _ _ _ (c .before .before .before .before .before .before .loop .inv); free = sym (c .before .refusal .ensures) ∙ c .if1 .taken }, p .1)
+    (record { prepared = p .0; ready = follow-ready (works a) _ (b .args .log .now) _ _ _ _ (c .before .before .before .before .before .before .loop .inv) (Ready (b .args .s .now)) (ready-pad a); free = sym (c .before .refusal .ensures) ∙ c .if1 .taken }, p .1)
 
 returns-2 : tie.Need-returns-2 Inv-loop μ-loop
 returns-2 c =
@@ -94,7 +98,7 @@ returns-2 c =
     let count = values-count (p .0) _ (c .before .before .before .before .before .before .before .before .before .before .before .before .before .before .wide .ensures .0) in
     let programs = values-count (p .0) _ refl in
     let there = event-there _ (rw programs at few) (b .args .log .now) (c .before .before .before .before .before .before .before .before .before .before .loop .at) _ (c .before .before .before .before .before .before .before .before .record-at .ensures) _ count _ programs _ (c .before .before .before .before .before .before .before .words-at .ensures) in
-    follow-violated a (b .args .log .now) _ _ _ _ g h _ there (sym (c .before .before .before .before .before .refusal .ensures) ∙ c .before .before .before .before .if1 .taken) _ (c .before .before .before .taken .ensures) _ (c .before .outcome .given .1)
+    follow-violated (works a) _ (b .args .log .now) _ _ _ _ g h _ there (sym (c .before .before .before .before .before .refusal .ensures) ∙ c .before .before .before .before .if1 .taken) _ (c .before .before .before .taken .ensures) _ (c .before .outcome .given .1)
 
 add-at : tie.Need-add-at Inv-loop μ-loop
 add-at c =
@@ -103,7 +107,7 @@ add-at c =
     let a = accepted sheetLayout (b .args .s .now) (p .0 .accepted) in
     let g = c .before .before .before .before .before .before .before .before .before .loop .inv in
     let h = c .before .before .before .before .before .before .before .before .loop-test .taken in
-    let room = follow-room a (b .args .log .now) _ _ _ _ g h in
+    let room = follow-room (works a) _ (b .args .log .now) _ _ _ _ g h in
     let size = record-size (p .0) _ (c .before .before .before .before .before .before .before .before .before .before .before .before .word .ensures .0) in
     let small : c .before .before .before .before .before .before .before .before .before .loop .at + (4 + 4 * c .before .before .before .before .before .before .before .before .before .before .before .before .word .result) < 4294967296 = omega (arith, g .fits) in
     search (needs, small)
@@ -119,14 +123,14 @@ loop-again c =
     let count = values-count (p .0) _ (c .before .before .before .before .before .before .before .before .before .before .before .before .before .wide .ensures .0) in
     let programs = values-count (p .0) _ refl in
     let there = event-there _ (rw programs at few) (b .args .log .now) (c .before .before .before .before .before .before .before .before .before .loop .at) _ (c .before .before .before .before .before .before .before .record-at .ensures) _ count _ programs _ (c .before .before .before .before .before .before .words-at .ensures) in
-    follow-next a (b .args .log .now) _ _ _ _ g h _ there (sym (c .before .before .before .before .refusal .ensures) ∙ c .before .before .before .if1 .taken) _ (c .before .before .taken .ensures) (c .enum-told .given .1) _ (record-size (p .0) _ (c .before .before .before .before .before .before .before .before .before .before .before .before .word .ensures .0))
+    follow-next (works a) _ (b .args .log .now) _ _ _ _ g h _ there (sym (c .before .before .before .before .refusal .ensures) ∙ c .before .before .before .if1 .taken) _ (c .before .before .taken .ensures) (c .enum-told .given .1) _ (record-size (p .0) _ (c .before .before .before .before .before .before .before .before .before .before .before .before .word .ensures .0))
 
 returns-3 : tie.Need-returns-3 Inv-loop μ-loop
 returns-3 c =
     let b = c .before .before .before .before .before .before .before .before .before in
     let p = b .pre in
     let a = accepted sheetLayout (b .args .s .now) (p .0 .accepted) in
-    follow-end a (b .args .log .now) _ _ _ _ (c .before .loop .inv) (c .loop-test .left)
+    follow-end (works a) _ (b .args .log .now) _ _ _ _ (c .before .loop .inv) (c .loop-test .left)
 
 pub follow-spec : {M : Type 1} → statement M
 follow-spec =
