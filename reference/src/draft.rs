@@ -20,6 +20,19 @@ pub struct Front {
 }
 
 impl Front {
+    /// No tables and no bad states; starting in state 0.
+    fn new(version: u8, states: u8, units: u8, program: u8, initial: &[i32]) -> Front {
+        Front {
+            version,
+            states,
+            units,
+            program,
+            monitor: initial.len() as u8,
+            initial: initial.to_vec(),
+            ..Front::default()
+        }
+    }
+
     fn write(&self, transitions: usize, last: usize) -> Vec<u8> {
         let mut out = vec![0, 0, self.version, self.states, self.units];
         out.extend([self.program, self.monitor, self.start]);
@@ -66,17 +79,8 @@ pub struct SheetDraft {
 impl SheetDraft {
     /// An empty sheet of version 1 with these counts, starting in state 0.
     pub fn new(states: u8, units: u8, program: u8, initial: &[i32]) -> SheetDraft {
-        let front = Front {
-            version: 1,
-            states,
-            units,
-            program,
-            monitor: initial.len() as u8,
-            initial: initial.to_vec(),
-            ..Front::default()
-        };
         SheetDraft {
-            front,
+            front: Front::new(1, states, units, program, initial),
             ..SheetDraft::default()
         }
     }
@@ -130,6 +134,19 @@ pub struct NetworkDraft {
 }
 
 impl NetworkDraft {
+    /// An empty network of version 2 with these counts, starting in state 0.
+    pub fn new(states: u8, units: u8, program: u8, initial: &[i32]) -> NetworkDraft {
+        NetworkDraft {
+            front: Front::new(2, states, units, program, initial),
+            ..NetworkDraft::default()
+        }
+    }
+
+    /// Adds a transition: its six bytes and its pairs.
+    pub fn creating(&mut self, bytes: [u8; 6], pairs: &[[u8; 2]]) {
+        self.transitions.push((bytes, pairs.to_vec()));
+    }
+
     /// Counted from the front.
     pub fn places(&self) -> Places {
         let transitions = self.front.length();

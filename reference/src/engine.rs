@@ -20,14 +20,25 @@ pub struct Event<'a> {
 }
 
 /// What a run needs from a sheet or a network.
-pub trait Engine {
-    type State: Clone;
+pub trait Engine: Sized {
+    type State: Clone + Default;
 
+    /// The first of the reading refusals that applies, or what the bytes say.
+    fn read(bytes: &[u8]) -> Result<Self, Refusal>;
     fn machine(&self) -> &Machine;
     fn fresh(&self) -> Self::State;
-    /// The state after the event, or the lowest of refusals 9-15; then the state stays as it was.
-    fn event(&self, state: &Self::State, event: &Event) -> Result<Self::State, Refusal>;
+    fn is_sound(&self, state: &Self::State) -> bool;
+    /// The state after the event, or the lowest of refusals 10-15, for a state that is sound.
+    fn take(&self, state: &Self::State, event: &Event) -> Result<Self::State, Refusal>;
     fn common(state: &Self::State) -> &Common;
+
+    /// The state after the event, or the lowest of refusals 9-15; then the state stays as it was.
+    fn event(&self, state: &Self::State, event: &Event) -> Result<Self::State, Refusal> {
+        if !self.is_sound(state) {
+            return Err(Refusal::Unsound);
+        }
+        self.take(state, event)
+    }
 }
 
 /// An event that is taken: an entry, or the exit of the call at a place.
@@ -177,6 +188,10 @@ fn postcondition_holds(condition: u8, event: &Event, call: &Call, machine: &Mach
 impl Engine for Sheet {
     type State = SheetState;
 
+    fn read(bytes: &[u8]) -> Result<Sheet, Refusal> {
+        Sheet::read(bytes)
+    }
+
     fn machine(&self) -> &Machine {
         &self.machine
     }
@@ -188,10 +203,11 @@ impl Engine for Sheet {
         }
     }
 
-    fn event(&self, state: &SheetState, event: &Event) -> Result<SheetState, Refusal> {
-        if !state.is_sound(self) {
-            return Err(Refusal::Unsound);
-        }
+    fn is_sound(&self, state: &SheetState) -> bool {
+        state.is_sound(self)
+    }
+
+    fn take(&self, state: &SheetState, event: &Event) -> Result<SheetState, Refusal> {
         let header = &self.machine.header;
         let taken = admit(&state.common, event, header)?;
         let mut next = state.clone();
@@ -253,6 +269,10 @@ impl Sheet {
 impl Engine for Network {
     type State = NetworkState;
 
+    fn read(bytes: &[u8]) -> Result<Network, Refusal> {
+        Network::read(bytes)
+    }
+
     fn machine(&self) -> &Machine {
         &self.machine
     }
@@ -264,10 +284,11 @@ impl Engine for Network {
         }
     }
 
-    fn event(&self, state: &NetworkState, event: &Event) -> Result<NetworkState, Refusal> {
-        if !state.is_sound(self) {
-            return Err(Refusal::Unsound);
-        }
+    fn is_sound(&self, state: &NetworkState) -> bool {
+        state.is_sound(self)
+    }
+
+    fn take(&self, state: &NetworkState, event: &Event) -> Result<NetworkState, Refusal> {
         let header = &self.machine.header;
         let taken = admit(&state.common, event, header)?;
         let mut next = state.clone();
@@ -342,25 +363,34 @@ impl NetworkState {
 
 // ---- From bytes -------------------------------------------------------------------------------
 
-/// A fresh state from a sheet's bytes; a refused sheet gives an all-zero state.
-pub fn fresh_sheet_state(sheet: &[u8]) -> (SheetState, Option<Refusal>) {
-    match Sheet::read(sheet) {
-        Ok(sheet) => (sheet.fresh(), None),
-        Err(refusal) => (SheetState::default(), Some(refusal)),
+/// A fresh state; what is refused gives an all-zero state.
+pub fn fresh_state<E: Engine>(bytes: &[u8]) -> (E::State, Option<Refusal>) {
+    match E::read(bytes) {
+        Ok(engine) => (engine.fresh(), None),
+        Err(refusal) => (E::State::default(), Some(refusal)),
     }
 }
 
-/// A fresh state from a network's bytes; a refused network gives an all-zero state.
+/// One event: the reading refusals and 9-15.
+pub fn offer<E: Engine>(
+    bytes: &[u8],
+    state: &E::State,
+    event: &Event,
+) -> Result<E::State, Refusal> {
+    E::read(bytes)?.event(state, event)
+}
+
+pub fn fresh_sheet_state(sheet: &[u8]) -> (SheetState, Option<Refusal>) {
+    fresh_state::<Sheet>(sheet)
+}
+
 pub fn fresh_network_state(network: &[u8]) -> (NetworkState, Option<Refusal>) {
-    match Network::read(network) {
-        Ok(network) => (network.fresh(), None),
-        Err(refusal) => (NetworkState::default(), Some(refusal)),
-    }
+    fresh_state::<Network>(network)
 }
 
 /// One event on a sheet's bytes: refusals 1-15.
 pub fn sheet_event(sheet: &[u8], state: &SheetState, event: &Event) -> Result<SheetState, Refusal> {
-    Sheet::read(sheet)?.event(state, event)
+    offer::<Sheet>(sheet, state, event)
 }
 
 /// One event on a network's bytes: refusals 1-7 and 9-15.
@@ -369,5 +399,5 @@ pub fn network_event(
     state: &NetworkState,
     event: &Event,
 ) -> Result<NetworkState, Refusal> {
-    Network::read(network)?.event(state, event)
+    offer::<Network>(network, state, event)
 }

@@ -668,3 +668,56 @@ pub fn run_case(random: &mut Random) -> RunCase {
     }
     RunCase { sheet: bytes, log }
 }
+
+/// A network's bytes and a log's bytes.
+#[derive(Clone, Debug, PartialEq, Eq)]
+pub struct NetworkCase {
+    pub network: Vec<u8>,
+    pub log: Vec<u8>,
+}
+
+/// A network of its own, sometimes broken, with a log that fits it; and now and then a log that
+/// was made for a sheet.
+pub fn network_case(random: &mut Random, sheet_log: &[u8]) -> NetworkCase {
+    let size = if random.chance(1, 4) {
+        Size::Any
+    } else {
+        Size::Small
+    };
+    let draft = network(random, size);
+    let bytes = match random.below(8) {
+        0 | 1 => break_network(random, &draft),
+        2 => damaged(random, draft.bytes()),
+        3 => break_network_as_sheet(random),
+        _ => draft.bytes(),
+    };
+    let shape = Shape {
+        units: draft.front.units,
+        program: draft.front.program,
+    };
+    let manner = Manner::any(random);
+    let length = random.between(0, 60);
+    let mut log = write_log(shape.program, &records(random, shape, manner, length));
+    match random.below(8) {
+        0 => log = break_log(random, log),
+        1 => log = sheet_log.to_vec(),
+        _ => {}
+    }
+    NetworkCase {
+        network: bytes,
+        log,
+    }
+}
+
+/// What breaks a sheet, carried over into a network with no pairs.
+fn break_network_as_sheet(random: &mut Random) -> Vec<u8> {
+    let mut base = sheet(random, Size::Small);
+    base.triples.clear();
+    base.transitions.clear();
+    let mut bytes = break_sheet(random, &base);
+    if let Some(version) = bytes.get_mut(2) {
+        // 1 becomes 2; a version that is wrong stays wrong.
+        *version = version.wrapping_add(1);
+    }
+    bytes
+}

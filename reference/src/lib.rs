@@ -3,6 +3,7 @@
 
 pub mod condition_cases;
 pub mod draft;
+pub mod dump;
 pub mod engine;
 pub mod expr;
 pub mod frames;
@@ -12,12 +13,24 @@ pub mod monitor_cases;
 pub mod monitor_clauses;
 pub mod monitor_frames;
 pub mod network;
+pub mod network_cases;
+pub mod network_clauses;
+pub mod network_frames;
 pub mod program;
+pub mod program_cases;
 pub mod programs;
+#[cfg(feature = "embed")]
+pub mod proved;
 pub mod random;
 pub mod random_expr;
+pub mod random_script;
 pub mod refusal;
 pub mod run;
+pub mod samples;
+pub mod script;
+pub mod script_frames;
+pub mod shared_cases;
+pub mod shared_clauses;
 pub mod sheet;
 pub mod sheet_cases;
 pub mod sheet_frames;
@@ -26,5 +39,7 @@ pub mod tally;
 pub mod translate;
 pub mod translation_cases;
 pub mod translation_frames;
+#[cfg(feature = "embed")]
+pub mod workloads;
 
 pub use refusal::Refusal;

@@ -1,90 +1,46 @@
-//! The clauses of a sound state, for `monitor_cases`: what breaks each of them alone, and next to
-//! it what does not. They change the states that are laid out in `monitor_cases`.
+//! The clauses of a sound state of a sheet, for `monitor_cases`: what breaks each of them alone, and
+//! next to it what does not. They change the states that are laid out in `shared_cases`.
 
-use crate::monitor_frames::Field::{self, *};
+use crate::monitor_frames::Arms;
+use crate::script_frames;
+use crate::script_frames::Field::*;
+use crate::shared_clauses::{clause, judged, Shared, HIGH, MOST};
 
-pub type Set = (Field, u32);
+type Set = script_frames::Set<Arms>;
+type Clause = crate::shared_clauses::Clause<Arms>;
 
-/// What is set first, then in turn each of the sound and of the broken changes.
-pub struct Clause {
-    /// The sound states have a verdict.
-    pub judged: bool,
-    pub before: &'static [Set],
-    pub sound: &'static [&'static [Set]],
-    pub broken: &'static [&'static [Set]],
+/// How many triples are armed for the call at a place.
+const fn armed(place: u8, count: u32) -> Set {
+    (Own(Arms::Count(place)), count)
 }
 
-const fn clause(
-    before: &'static [Set],
-    sound: &'static [&'static [Set]],
-    broken: &'static [&'static [Set]],
-) -> Clause {
-    Clause {
-        judged: false,
-        before,
-        sound,
-        broken,
-    }
+const fn triple(place: u8, number: u8, triple: u32) -> Set {
+    (Own(Arms::Triple(place, number)), triple)
 }
-
-const fn judged(
-    before: &'static [Set],
-    sound: &'static [&'static [Set]],
-    broken: &'static [&'static [Set]],
-) -> Clause {
-    Clause {
-        judged: true,
-        before,
-        sound,
-        broken,
-    }
-}
-
-const HIGH: u32 = 0x8000_0000;
-const MOST: u32 = u32::MAX;
 
 /// What is armed for the first call.
 const fn first(count: u32, triples: [u32; 4]) -> [Set; 5] {
     [
-        (Armed(0), count),
-        (Triple(0, 0), triples[0]),
-        (Triple(0, 1), triples[1]),
-        (Triple(0, 2), triples[2]),
-        (Triple(0, 3), triples[3]),
+        armed(0, count),
+        triple(0, 0, triples[0]),
+        triple(0, 1, triples[1]),
+        triple(0, 2, triples[2]),
+        triple(0, 3, triples[3]),
     ]
 }
 
 // ---- The base: Q 4, U 2, P 2, V 2, 8 triples, 2 and 3 bad; two calls, position 2 ---------------
 
 pub const BASE_CLAUSES: &[Clause] = &[
-    // The main state. At 1 the armed triples are of another state than the main one (reading 8).
-    clause(
-        &[],
-        &[&[], &[(Main, 1)]],
-        &[&[(Main, 4)], &[(Main, 15)], &[(Main, 16)], &[(Main, 255)]],
-    ),
-    // Two calls with one number.
-    clause(
-        &[],
-        &[&[(Number(1), 6)], &[(Number(1), 65_535)], &[(Number(1), 0)]],
-        &[
-            &[(Number(1), 7)],
-            &[(Open, 4), (Number(2), 5), (Number(3), 8)],
-        ],
-    ),
-    // Number 0 is a number as any other.
-    clause(&[(Open, 3)], &[&[]], &[&[(Number(1), 0)], &[(Open, 4)]]),
-    // A unit.
-    clause(
-        &[(Armed(1), 0), (Triple(1, 0), 0)],
-        &[&[(Unit(1), 0)], &[(Unit(1), 1)]],
-        &[&[(Unit(1), 2)], &[(Unit(1), 16)], &[(Unit(1), 255)]],
-    ),
+    Shared::MAIN,
+    Shared::numbers(&[]),
+    Shared::number_zero(&[(Open, 3)]),
+    Shared::units(&[armed(1, 0), triple(1, 0, 0)]),
     // How many triples are armed.
     clause(
         &first(4, [0, 1, 3, 5]),
         &[&[]],
-        &[&[(Armed(0), 5)], &[(Armed(0), 16)], &[(Armed(0), 255)]],
+        &[&[armed(0, 5)], &[armed(0, 16)], &[armed(0, 255)]],
     ),
     // They rise.
     clause(
@@ -112,26 +68,26 @@ pub const BASE_CLAUSES: &[Clause] = &[
     // They exist.
     clause(
         &[],
-        &[&[(Unit(1), 1), (Triple(1, 0), 7)]],
+        &[&[(Unit(1), 1), triple(1, 0, 7)]],
         &[
-            &[(Triple(0, 1), 8)],
-            &[(Triple(0, 1), 255)],
-            &[(Triple(1, 0), 8)],
-            &[(Triple(1, 0), 32)],
-            &[(Triple(1, 0), 255)],
+            &[triple(0, 1, 8)],
+            &[triple(0, 1, 255)],
+            &[triple(1, 0, 8)],
+            &[triple(1, 0, 32)],
+            &[triple(1, 0, 255)],
             &first(4, [0, 1, 3, 8]),
         ],
     ),
     // They are of the call's unit.
     clause(
         &[],
-        &[&first(1, [1, 0, 0, 0]), &[(Unit(1), 0), (Triple(1, 0), 5)]],
+        &[&first(1, [1, 0, 0, 0]), &[(Unit(1), 0), triple(1, 0, 5)]],
         &[
             &first(1, [4, 0, 0, 0]),
             &first(2, [0, 4, 0, 0]),
             &first(3, [0, 4, 5, 0]),
             &[(Unit(1), 0)],
-            &[(Triple(1, 0), 5)],
+            &[triple(1, 0, 5)],
         ],
     ),
     // They are of one state, which need not be the main one (reading 8).
@@ -140,7 +96,7 @@ pub const BASE_CLAUSES: &[Clause] = &[
         &[
             &first(2, [2, 6, 0, 0]),
             &first(1, [6, 0, 0, 0]),
-            &[(Main, 1), (Triple(1, 0), 7)],
+            &[(Main, 1), triple(1, 0, 7)],
         ],
         &[
             &first(2, [0, 2, 0, 0]),
@@ -148,199 +104,58 @@ pub const BASE_CLAUSES: &[Clause] = &[
             &first(2, [1, 6, 0, 0]),
             &first(3, [0, 1, 2, 0]),
             &first(4, [0, 1, 3, 6]),
-            &[(Armed(1), 2), (Triple(1, 1), 7)],
+            &[armed(1, 2), triple(1, 1, 7)],
         ],
     ),
-    // Variables from V on.
-    clause(
-        &[],
-        &[&[(Variable(0), 0)], &[(Variable(1), HIGH)]],
-        &[
-            &[(Variable(2), 1)],
-            &[(Variable(2), HIGH)],
-            &[(Variable(3), 0x100)],
-            &[(Variable(3), MOST)],
-        ],
-    ),
-    // Kept values from P on.
-    clause(
-        &[],
-        &[&[(Kept(0, 1), MOST)], &[(Kept(1, 0), HIGH)]],
-        &[
-            &[(Kept(0, 2), 1)],
-            &[(Kept(0, 7), 1)],
-            &[(Kept(1, 2), HIGH)],
-            &[(Kept(1, 3), 1)],
-            &[(Kept(1, 4), 0x1_0000)],
-            &[(Kept(1, 5), MOST)],
-            &[(Kept(1, 6), 1)],
-            &[(Kept(1, 7), 0x100)],
-        ],
-    ),
-    // A call behind the open ones: its number, its unit, a kept value.
-    clause(
-        &[],
-        &[
-            &[(Open, 3), (Number(2), 5)],
-            &[(Open, 3), (Unit(2), 1)],
-            &[(Open, 3), (Kept(2, 0), 5)],
-            &[(Open, 3), (Kept(2, 1), 5)],
-        ],
-        &[
-            &[(Number(2), 5)],
-            &[(Number(2), 256)],
-            &[(Number(9), 9)],
-            &[(Number(15), 65_535)],
-            &[(Unit(2), 1)],
-            &[(Unit(8), 2)],
-            &[(Unit(15), 255)],
-            &[(Kept(2, 0), 5)],
-            &[(Kept(2, 7), HIGH)],
-            &[(Kept(7, 3), 1)],
-            &[(Kept(15, 0), MOST)],
-            &[(Kept(15, 7), 1)],
-        ],
-    ),
+    Shared::VARIABLES,
+    Shared::KEPT,
+    Shared::BEHIND,
     // What is armed behind the open calls: the count, a triple.
     clause(
         &[],
         &[
-            &[(Open, 3), (Armed(2), 1)],
-            &[(Open, 3), (Armed(2), 1), (Triple(2, 0), 5)],
+            &[(Open, 3), armed(2, 1)],
+            &[(Open, 3), armed(2, 1), triple(2, 0, 5)],
         ],
         &[
-            &[(Armed(2), 1)],
-            &[(Armed(3), 255)],
-            &[(Armed(15), 4)],
-            &[(Triple(2, 0), 5)],
-            &[(Triple(2, 3), 1)],
-            &[(Triple(10, 1), 9)],
-            &[(Triple(15, 0), 1)],
-            &[(Triple(15, 3), 255)],
+            &[armed(2, 1)],
+            &[armed(3, 255)],
+            &[armed(15, 4)],
+            &[triple(2, 0, 5)],
+            &[triple(2, 3, 1)],
+            &[triple(10, 1, 9)],
+            &[triple(15, 0, 1)],
+            &[triple(15, 3, 255)],
         ],
     ),
     // A triple behind the armed ones.
     clause(
         &[],
-        &[&[(Armed(0), 3), (Triple(0, 2), 5)], &first(0, [0, 0, 0, 0])],
+        &[&[armed(0, 3), triple(0, 2, 5)], &first(0, [0, 0, 0, 0])],
         &[
-            &[(Triple(0, 2), 5)],
-            &[(Triple(0, 3), 5)],
-            &[(Triple(1, 1), 7)],
-            &[(Triple(1, 3), 255)],
+            &[triple(0, 2, 5)],
+            &[triple(0, 3, 5)],
+            &[triple(1, 1, 7)],
+            &[triple(1, 3, 255)],
             &first(0, [1, 0, 0, 0]),
             &first(0, [0, 0, 0, 1]),
             &first(1, [0, 3, 0, 0]),
             &first(3, [0, 1, 3, 5]),
         ],
     ),
-    // A verdict's position; 0 is one as any other (reading 9).
-    judged(
-        &[(Main, 2)],
-        &[
-            &[(BadState(2), 2)],
-            &[(Both(2, 0), 2)],
-            &[(Position, 0), (BadState(2), 0)],
-            &[(Position, MOST), (BadState(2), MOST)],
-        ],
-        &[
-            &[(BadState(2), 1)],
-            &[(BadState(2), 3)],
-            &[(BadState(2), 0)],
-            &[(BadState(2), MOST)],
-            &[(Both(2, 0), 1)],
-            &[(Both(2, 0), 258)],
-            &[(Position, 0), (BadState(2), 2)],
-            &[(Position, 0), (Both(2, 0), MOST)],
-        ],
-    ),
-    judged(
-        &[],
-        &[
-            &[(Failed(0), 2)],
-            &[(Position, 0), (Failed(0), 0)],
-            &[(Position, HIGH), (Failed(4), HIGH)],
-        ],
-        &[
-            &[(Failed(0), 1)],
-            &[(Failed(0), 3)],
-            &[(Failed(0), 0)],
-            &[(Failed(4), HIGH)],
-            &[(Position, 0), (Failed(0), 2)],
-        ],
-    ),
-    // Its bad state is the main state.
-    judged(
-        &[(Main, 3)],
-        &[&[(BadState(3), 2)], &[(Both(3, 7), 2)]],
-        &[
-            &[(BadState(2), 2)],
-            &[(Both(2, 7), 2)],
-            &[(BadState(0), 2)],
-            &[(BadState(255), 2)],
-            &[(Both(7, 3), 2)],
-        ],
-    ),
-    // Its bad state is bad.
-    judged(
-        &[],
-        &[&[(Main, 1), (Failed(1), 2)], &[(Main, 2), (BadState(2), 2)]],
-        &[
-            &[(BadState(0), 2)],
-            &[(Both(0, 0), 2)],
-            &[(Main, 1), (BadState(1), 2)],
-            &[(Main, 1), (Both(1, 1), 2)],
-            &[(Main, 4), (BadState(4), 2)],
-            &[(Main, 16), (BadState(16), 2)],
-            &[(Main, 255), (Both(255, 0), 2)],
-        ],
-    ),
-    // Its triple exists. A triple alone is enough where the main state is bad (reading 9).
-    judged(
-        &[],
-        &[
-            &[(Failed(7), 2)],
-            &[(Main, 2), (Failed(7), 2)],
-            &[(Main, 3), (Failed(0), 2)],
-            &[(Main, 2), (Both(2, 7), 2)],
-        ],
-        &[
-            &[(Failed(8), 2)],
-            &[(Failed(32), 2)],
-            &[(Failed(255), 2)],
-            &[(Main, 2), (Failed(8), 2)],
-            &[(Main, 2), (Both(2, 8), 2)],
-            &[(Main, 2), (Both(2, 255), 2)],
-        ],
-    ),
-    // A bad main state has a verdict.
-    judged(
-        &[],
-        &[&[(Main, 3), (BadState(3), 2)]],
-        &[&[(Main, 2)], &[(Main, 3)], &[(Main, 2), (Position, 0)]],
-    ),
-    // Nothing relates the position to the calls (reading 9).
-    clause(&[], &[&[(Position, 0)], &[(Position, 1)]], &[]),
+    Shared::POSITION_OF_BAD,
+    Shared::POSITION_OF_FAILED,
+    Shared::IS_MAIN,
+    Shared::IS_BAD,
+    Shared::EXISTS,
+    Shared::HAS_VERDICT,
+    Shared::POSITION,
 ];
 
 // ---- The base with sixteen calls ---------------------------------------------------------------
 
 pub const FULL_CLAUSES: &[Clause] = &[
-    // How many calls are open.
-    clause(
-        &[],
-        &[&[], &[(Open, 16)]],
-        &[
-            &[(Open, 17)],
-            &[(Open, 18)],
-            &[(Open, 32)],
-            &[(Open, 128)],
-            &[(Open, 255)],
-            // The last call is behind them.
-            &[(Open, 15)],
-            &[(Open, 0)],
-        ],
-    ),
+    Shared::OPENED,
     // Two calls with one number, far apart and side by side.
     clause(
         &[],
@@ -359,27 +174,27 @@ pub const FULL_CLAUSES: &[Clause] = &[
     ),
     // The last place, each clause that a call has.
     clause(
-        &[(Armed(15), 0), (Triple(15, 0), 0)],
+        &[armed(15, 0), triple(15, 0, 0)],
         &[&[(Unit(15), 0)], &[(Kept(15, 1), MOST)]],
         &[
             &[(Unit(15), 2)],
             &[(Unit(15), 255)],
             &[(Kept(15, 2), 1)],
             &[(Kept(15, 7), HIGH)],
-            &[(Armed(15), 1)],
-            &[(Armed(15), 5)],
-            &[(Triple(15, 0), 4)],
-            &[(Triple(15, 3), 4)],
+            &[armed(15, 1)],
+            &[armed(15, 5)],
+            &[triple(15, 0, 4)],
+            &[triple(15, 3, 4)],
         ],
     ),
     clause(
         &[],
-        &[&[(Triple(15, 0), 7)]],
+        &[&[triple(15, 0, 7)]],
         &[
-            &[(Triple(15, 0), 5)],
-            &[(Triple(15, 0), 8)],
-            &[(Armed(15), 2), (Triple(15, 1), 7)],
-            &[(Armed(15), 2), (Triple(15, 1), 4)],
+            &[triple(15, 0, 5)],
+            &[triple(15, 0, 8)],
+            &[armed(15, 2), triple(15, 1, 7)],
+            &[armed(15, 2), triple(15, 1, 4)],
             &[(Variable(2), 1)],
             &[(Main, 4)],
         ],
@@ -400,8 +215,8 @@ pub const TINY_CLAUSES: &[Clause] = &[clause(
         &[(Unit(0), 255)],
         &[(Kept(0, 0), 1)],
         &[(Kept(0, 7), MOST)],
-        &[(Armed(0), 1)],
-        &[(Triple(0, 0), 1)],
+        &[armed(0, 1)],
+        &[triple(0, 0, 1)],
         &[(Open, 2), (Number(1), 7)],
         &[(Failed(0), 1)],
         &[(BadState(0), 1)],
@@ -423,7 +238,7 @@ pub const EDGE_CLAUSES: &[Clause] = &[
             &first(4, [28, 29, 30, 31]),
             &first(1, [31, 0, 0, 0]),
             &[(Open, 2), (Unit(1), 15)],
-            &[(Open, 2), (Armed(1), 0), (Unit(1), 7)],
+            &[(Open, 2), armed(1, 0), (Unit(1), 7)],
         ],
         &[
             &[(Main, 14)],

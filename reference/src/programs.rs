@@ -2,7 +2,9 @@
 //! `PROGRAMS` and describe its frames in CASES.md.
 
 use crate::translation_frames::Frame;
-use crate::{condition_cases, monitor_cases, sheet_cases, translation_cases};
+use crate::{
+    condition_cases, monitor_cases, network_cases, program_cases, sheet_cases, translation_cases,
+};
 
 pub struct Program {
     /// The directory under `crates/`.
@@ -41,11 +43,25 @@ pub const PROGRAMS: &[Program] = &[
         },
     },
     Program {
+        name: "network_cases",
+        make: || {
+            let rows = network_cases::all();
+            gather(rows.iter(), |r, out| r.frame.write(out), |r| r.line.clone())
+        },
+    },
+    Program {
         name: "translation_cases",
         make: || {
             let frames = translation_cases::all();
             let lines = |f: &&Frame| Some(f.lines().join("\n"));
             gather(frames.iter(), |f, out| f.write(out), lines)
+        },
+    },
+    Program {
+        name: "cases",
+        make: || {
+            let frames = program_cases::all();
+            gather(frames.iter(), |f, out| f.write(out), |f| Some(f.lines()))
         },
     },
 ];

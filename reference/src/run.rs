@@ -127,9 +127,23 @@ pub fn run<E: Engine>(engine: &E, log: &[u8]) -> Outcome {
 }
 
 pub fn run_records<E: Engine>(engine: &E, records: &[Record]) -> Outcome {
+    follow(engine, records, E::event)
+}
+
+/// The same without judging the state before each event: from fresh it is always sound.
+pub fn run_unjudged<E: Engine>(engine: &E, log: &[u8]) -> Outcome {
+    match read_log(log, engine.machine().header.program) {
+        Ok(records) => follow(engine, &records, E::take),
+        Err(refusal) => Outcome::Refused(refusal),
+    }
+}
+
+type Offer<E> = fn(&E, &<E as Engine>::State, &Event) -> Result<<E as Engine>::State, Refusal>;
+
+fn follow<E: Engine>(engine: &E, records: &[Record], offer: Offer<E>) -> Outcome {
     let mut state = engine.fresh();
     for (record, number) in records.iter().zip(1u32..) {
-        state = match engine.event(&state, &record.event()) {
+        state = match offer(engine, &state, &record.event()) {
             Ok(next) => next,
             Err(refusal) => return Outcome::RefusedAt(refusal, number),
         };
@@ -148,16 +162,18 @@ fn clean(common: &Common) -> Outcome {
     }
 }
 
-pub fn run_sheet(sheet: &[u8], log: &[u8]) -> Outcome {
-    match Sheet::read(sheet) {
-        Ok(sheet) => run(&sheet, log),
+/// Runs a log's bytes on the bytes of a sheet or network.
+pub fn run_bytes<E: Engine>(bytes: &[u8], log: &[u8]) -> Outcome {
+    match E::read(bytes) {
+        Ok(engine) => run(&engine, log),
         Err(refusal) => Outcome::Refused(refusal),
     }
 }
 
+pub fn run_sheet(sheet: &[u8], log: &[u8]) -> Outcome {
+    run_bytes::<Sheet>(sheet, log)
+}
+
 pub fn run_network(network: &[u8], log: &[u8]) -> Outcome {
-    match Network::read(network) {
-        Ok(network) => run(&network, log),
-        Err(refusal) => Outcome::Refused(refusal),
-    }
+    run_bytes::<Network>(network, log)
 }

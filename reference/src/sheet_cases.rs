@@ -936,7 +936,8 @@ fn pairs_and_templates(rows: &mut Rows) {
 
 // ---- Document 01 and the greatest -------------------------------------------------------------
 
-pub(crate) const SHEET_A: [u8; 39] = [
+/// Document 01's sheet A.
+pub const SHEET_A: [u8; 39] = [
     0x00, 0x27, 0x01, 0x02, 0x01, 0x02, 0x00, 0x00, 0x00, 0x00, 0x02, 0x01, 0x02,
     0x01, // header
     0x01, 0x00, 0x05, 0x05, 0x11, 0x01, 0x13, 0x00, // conditions
@@ -954,7 +955,8 @@ pub(crate) const NETWORK_A: [u8; 53] = [
     0x00, 0x00, 0x00, 0x02, 0x01, 0x00, 0x01, 0x00, 0x00, // the added one
     0x00, 0x01, // template
 ];
-pub(crate) const LOG_A: [u8; 30] = [
+/// Document 01's log on sheet A.
+pub const LOG_A: [u8; 30] = [
     0x00, 0x00, 0x00, 0x1E, 0x01, 0x02, // header
     0x00, 0x00, 0x00, 0x07, 0x00, 0x00, 0x00, 0x08, 0x00, 0x00, 0x00, 0x00, // entry
     0x01, 0x00, 0x00, 0x07, 0x00, 0x00, 0x00, 0x08, 0x00, 0x00, 0x00, 0x07, // exit
@@ -984,7 +986,7 @@ fn greatest(rows: &mut Rows) {
 
 /// From a sheet of the greatest length: every table filled, every transition an entry with four
 /// pairs, and the highest numbers named at least once.
-fn greatest_network(sheet: &SheetDraft) -> NetworkDraft {
+pub(crate) fn greatest_network(sheet: &SheetDraft) -> NetworkDraft {
     let mut draft = NetworkDraft::with(sheet.front.clone());
     draft.front.version = 2;
     draft.front.conditions.push(nots(64));

@@ -144,6 +144,16 @@ impl NetworkState {
     pub fn living_checkers(&self) -> &[Checker] {
         front(&self.checkers, self.living)
     }
+
+    /// The values at entry of the living checker at a place: those that its call keeps. Zeros where
+    /// there is no such checker, or where its call is not open.
+    pub fn entry_values(&self, place: usize) -> [i32; MOST_PROGRAM as usize] {
+        let checker = self.living_checkers().get(place);
+        let place = checker.and_then(|checker| self.common.place_of(checker.call));
+        place.map_or([0; MOST_PROGRAM as usize], |place| {
+            self.common.calls[place].kept
+        })
+    }
 }
 
 /// The places in use; all of them where the count is too large.

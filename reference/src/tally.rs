@@ -1,7 +1,7 @@
 //! Makes many cases from a fixed seed and counts what occurred in them.
 
 use crate::engine::Engine;
-use crate::generate::{self, RunCase, Size};
+use crate::generate::{self, RunCase};
 use crate::network::Network;
 use crate::program::{self, MOST_INPUT};
 use crate::random::Random;
@@ -138,49 +138,10 @@ fn count_run(case: &RunCase, tally: &mut Tally) -> Result<(), String> {
     Ok(())
 }
 
-/// A network of its own, sometimes broken, with a log that fits it; and now and then a log that
-/// was made for a sheet.
 fn count_network_run(random: &mut Random, case: &RunCase, tally: &mut Tally) {
-    let size = if random.chance(1, 4) {
-        Size::Any
-    } else {
-        Size::Small
-    };
-    let draft = generate::network(random, size);
-    let bytes = match random.below(8) {
-        0 | 1 => generate::break_network(random, &draft),
-        2 => generate::damaged(random, draft.bytes()),
-        3 => break_network_as_sheet(random),
-        _ => draft.bytes(),
-    };
-    let shape = generate::Shape {
-        units: draft.front.units,
-        program: draft.front.program,
-    };
-    let manner = generate::Manner::any(random);
-    let length = random.between(0, 60);
-    let records = generate::records(random, shape, manner, length);
-    let mut log = crate::run::write_log(shape.program, &records);
-    match random.below(8) {
-        0 => log = generate::break_log(random, log),
-        1 => log.clone_from(&case.log),
-        _ => {}
-    }
-    let outcome = run_network(&bytes, &log);
+    let own = generate::network_case(random, &case.log);
+    let outcome = run_network(&own.network, &own.log);
     tally.add(format!("network run: {}", outcome_label(&outcome)));
-}
-
-/// What breaks a sheet, carried over into a network with no pairs.
-fn break_network_as_sheet(random: &mut Random) -> Vec<u8> {
-    let mut base = generate::sheet(random, Size::Small);
-    base.triples.clear();
-    base.transitions.clear();
-    let mut bytes = generate::break_sheet(random, &base);
-    if let Some(version) = bytes.get_mut(2) {
-        // 1 becomes 2; a version that is wrong stays wrong.
-        *version = version.wrapping_add(1);
-    }
-    bytes
 }
 
 // ---- Single events ----------------------------------------------------------------------------

@@ -94,6 +94,12 @@ fn ends(unit: u8, number: u16, cups: i32) -> Record {
 }
 
 #[test]
+fn the_samples_have_this_coffee_machine() {
+    let sample = include_bytes!("../../samples/coffee.sheet");
+    assert_eq!(coffee_machine(), sample);
+}
+
+#[test]
 fn example_9_valid_traces() {
     let sheet = coffee_machine();
     let w = [
@@ -283,6 +289,12 @@ fn session(count: u16) -> Vec<Record> {
         records.extend(whole(TRANSFER, 10 + n, before, before + 100));
     }
     records
+}
+
+#[test]
+fn the_samples_have_these_file_transfers() {
+    let sample = include_bytes!("../../samples/files.sheet");
+    assert_eq!(file_transfers(Kind::Exit), sample);
 }
 
 #[test]

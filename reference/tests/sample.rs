@@ -76,6 +76,12 @@ fn the_log_above() {
 }
 
 #[test]
+fn the_samples_have_this_sheet_and_log() {
+    assert_eq!(SHEET_A[..], include_bytes!("../../samples/A.sheet")[..]);
+    assert_eq!(LOG[..], include_bytes!("../../samples/A-loader.log")[..]);
+}
+
+#[test]
 fn exit_values_8_8_are_clean() {
     assert_eq!(
         line(&[entry(7, 8, 0), exit(7, 8, 8)]),

@@ -94,7 +94,9 @@ fn case_files() -> Vec<PathBuf> {
         "condition_cases",
         "sheet_cases",
         "monitor_cases",
+        "network_cases",
         "translation_cases",
+        "cases",
     ];
     assert!(PROGRAMS.iter().map(|program| program.name).eq(names));
     let files = |name| ["stdin", "stdout"].map(|file| Path::new(name).join(file));

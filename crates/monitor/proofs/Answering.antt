@@ -1,8 +1,8 @@
 -- From the definition of one event to what offering it answers. Assumes nothing.
-use mathlib.Core.Path.{_≡_, refl, sym, ap, _∙_}
-use mathlib.Core.Bool.{Bool, true, false, false≢true}
+use mathlib.Core.Path.{_≡_, sym, ap, _∙_}
+use mathlib.Core.Bool.{Bool, true, false}
 use mathlib.Core.List.{List, map}
-use Prim.Native.Nat.{ℕ, zero, suc}
+use Prim.Native.Nat.{ℕ}
 use native.Mathlib.Omega.{arith}
 use borrow.Author.Tests.{eq-eqb, ne-eqb}
 use lib.ListN.{length, take}
@@ -11,13 +11,12 @@ use Rattle.sheet.specs.declared.Header.{Header}
 use Rattle.sheet.specs.declared.LogReading.{LogReading}
 use Rattle.sheet.specs.declared.LogReading.the-variants as log
 use Rattle.sheet.specs.declared.Reading.{Reading}
-use Rattle.sheet.specs.declared.Reading.the-variants.{Accepted, Refused}
+use Rattle.sheet.specs.declared.Reading.the-variants.{Refused}
 use Rattle.sheet.specs.Decode.{commonOf, sheetOf}
 use Rattle.sheet.specs.Reading.{reading, sheetLayout}
 use Rattle.sheet.specs.Bytes.{byte}
 use Rattle.sheet.specs.Log.{logReading, recordsIn, eventsOf}
 use Rattle.sheet.specs.Answer.{answer, logAnswer, headerOf}
-use Rattle.sheet.proofs.Answers.{answer-refused}
 use Rattle.step.specs.declared.Answer.{Answer}
 use Rattle.step.specs.declared.Answer.the-variants as offer
 use Rattle.step.specs.declared.RunAnswer.{RunAnswer}
@@ -32,8 +31,8 @@ use Rattle.monitor.specs.declared.event.Tables.{Tables}
 use Rattle.monitor.specs.Monitor as Monitor
 use Rattle.monitor.specs.Padded.{zeroArms, pad, view, soundState}
 use Rattle.step.specs.Padding.{zeroCall}
-use Rattle.step.specs.Answers.{ranAnswer, unlessRefused}
-use Rattle.step.proofs.Runs.{refused-with}
+use Rattle.step.specs.Answers.{ranAnswer}
+use Rattle.step.proofs.Runs.{refused-with, unread-offer, unread-run, unlogged-run}
 use Rattle.step.proofs.Rooms.{length-fit}
 use Rattle.monitor.specs.Answers.{offerRefusal, offerOf, endsIn, runOf}
 use Rattle.monitor.specs.Walk.{Prepared, Ready}
@@ -92,56 +91,21 @@ module _ (s : List ℕ) (w : WatchState) (event : Record) (values : List ℕ) wh
       offer-refuses k = rw (a, h, ← e) (refused-with offeredWith n k w _)
 
 -- a sheet that is not read
-abbrev asOffered : Reading → Answer
-asOffered Accepted = offer.Taken
-asOffered (Refused n) = offer.Refused n
-
-abbrev asRun : Reading → RunAnswer
-asRun Accepted = run.Refused 0
-asRun (Refused n) = run.Refused n
-
 module _ (s : List ℕ) (r : Reading) (er : r ≡ answer (reading sheetLayout s)) where
   pub offer-unread : (n : ℕ) → r ≡ Refused n → (w : WatchState) (event : Record) (values : List ℕ) → offeredWith (offer.Refused n) w ≡ offerOf s w (eventOf event values)
   unfolding offerOf offerRefusal
-  offer-unread n h w event values =
-      let (m, f, e) = answer-refused (reading sheetLayout s) r er n h in
-      rw f (ap (λ (x : Reading). offeredWith (asOffered x) w) e)
+  offer-unread n h w event values = unread-offer (reading sheetLayout s) r er n h offeredWith _ w _
 
   pub run-unread : (n : ℕ) → r ≡ Refused n → (log : List ℕ) → run.Refused n ≡ runOf s log
   unfolding runOf
-  run-unread n h log =
-      let (m, f, e) = answer-refused (reading sheetLayout s) r er n h in
-      rw f (ap asRun e)
+  run-unread n h log = unread-run (reading sheetLayout s) r er n h _
 
 -- a log that is read, or not
-abbrev isRecords : LogReading → Bool
-isRecords (log.Records n) = true
-isRecords (log.Refused n) = false
+module _ (s l : List ℕ) (a : reading sheetLayout s ≡ 0) where
+  pub run-follows : logReading (byte s 5) l ≡ 0 → (x : RunAnswer) → x ≡ ranAnswer endsIn (Monitor.run (sheetOf s) (eventsOf (byte s 5) l)) → x ≡ runOf s l
+  unfolding runOf
+  run-follows h x f = rw (a, h) f
 
-abbrev asLogged : LogReading → RunAnswer
-asLogged (log.Records n) = run.Refused 0
-asLogged (log.Refused n) = run.Refused n
-
-module _ (s l : List ℕ) (h : Header) (eh : h ≡ headerOf s) (r : LogReading) (er : r ≡ logAnswer (logReading (h .programs) l) (recordsIn (h .programs) l)) where
-  answered : r ≡ logAnswer (logReading (byte s 5) l) (recordsIn (byte s 5) l)
-  answered = er ∙ ap (λ (x : Header). logAnswer (logReading (x .programs) l) (recordsIn (x .programs) l)) eh
-
-  pub log-read : (n : ℕ) → r ≡ log.Records n → logReading (byte s 5) l ≡ 0
-  log-read n e = go (logReading (byte s 5) l) (sym answered ∙ e)
-    where
-      go : (m : ℕ) → logAnswer m (recordsIn (byte s 5) l) ≡ log.Records n → m ≡ 0
-      go zero e = refl
-      go (suc m) e = absurd (false≢true (ap isRecords e))
-
-  module _ (a : reading sheetLayout s ≡ 0) where
-    pub run-follows : (n : ℕ) → r ≡ log.Records n → (x : RunAnswer) → x ≡ ranAnswer endsIn (Monitor.run (sheetOf s) (eventsOf (byte s 5) l)) → x ≡ runOf s l
-    unfolding runOf
-    run-follows n e x f = rw (a, log-read n e) f
-
-    pub run-unlogged : (n : ℕ) → r ≡ log.Refused n → run.Refused n ≡ runOf s l
-    unfolding runOf
-    run-unlogged n e = rw a (go (logReading (byte s 5) l) (sym answered ∙ e))
-      where
-        go : (m : ℕ) → logAnswer m (recordsIn (byte s 5) l) ≡ log.Refused n → run.Refused n ≡ unlessRefused m (ranAnswer endsIn (Monitor.run (sheetOf s) (eventsOf (byte s 5) l)))
-        go zero e = absurd (false≢true (sym (ap isRecords e)))
-        go (suc m) e = ap asLogged (sym e)
+  pub run-unlogged : (h : Header) → h ≡ headerOf s → (r : LogReading) → r ≡ logAnswer (logReading (h .programs) l) (recordsIn (h .programs) l) → (n : ℕ) → r ≡ log.Refused n → run.Refused n ≡ runOf s l
+  unfolding runOf
+  run-unlogged h eh r er n e = rw a (unlogged-run s l h eh r er n e _)

@@ -2,10 +2,9 @@
 use mathlib.Core.Path.{_≡_, refl, sym, ap, _∙_}
 use mathlib.Core.Bool.{Bool}
 use mathlib.Core.Option.{none}
-use mathlib.Core.List.{List, [], _∷_, _++_, map}
+use mathlib.Core.List.{List, [], _∷_, _++_}
 use Prim.Native.Nat.{ℕ, suc, _+_, _<_}
 use native.Mathlib.Omega.{arith}
-use borrow.Author.Tests.{leb-false, eq-eqb}
 use lib.Dec.{eqb}
 use lib.ListN.{length, getD, set, take, length-append, length-map}
 use Rattle.condition.specs.Meaning.{environment}
@@ -29,6 +28,7 @@ use Rattle.step.specs.Padding.{zeroCall, padCall}
 use Rattle.step.specs.Walk.{eventOf, numberIn}
 use Rattle.step.proofs.Bridge.{conditionPlaces, before-meets}
 use Rattle.step.proofs.Moving.{moved-fits}
+use Rattle.step.proofs.Refusing.{entry-room}
 use Rattle.step.proofs.Rooms.{row-more}
 use Rattle.monitor.specs.declared.Arms.{Arms}
 use Rattle.monitor.specs.declared.WatchState.{WatchState}
@@ -85,10 +85,7 @@ module _ {s : List ℕ} {t : Tables} {c : List ℕ} (p : Prepared s t c) (w : Wa
       ap (λ (l : List ℕ). movedTo s (w .main) l (eventOf event values)) (sym back) ∙ moved-fits (commonOf s) (transitionsOf sheetLayout s) (bounds there .monitors) (record { main = w .main; variables = x }) (eventOf event values) v
 
   has-room : event .kind ≡ 0 → length (view (sheetOf s) w .calls) < 16
-  has-room entry =
-      let calls = view (sheetOf s) w .calls in
-      let short = leb-false 16 (length (map (λ (x : Armed). x .call) calls)) (rw (eq-eqb (event .kind) 0 entry) at (unrefused .room)) in
-      omega (arith, length-map calls (λ (x : Armed). x .call))
+  has-room entry = rw length-map at (entry-room unrefused entry)
 
   pub opened-room : event .kind ≡ 0 → w .opened < 16
   unfolding pad
@@ -106,7 +103,6 @@ module _ {s : List ℕ} {t : Tables} {c : List ℕ} (p : Prepared s t c) (w : Wa
       let e = eventOf event values in
       let σ = view (sheetOf s) w in
       let new : Armed = record { call = record { number = event .number; unit = event .unit; kept = values }; armed = armedBy (sheetOf s) (σ .configuration) e } in
-      let room = has-room entry in
       let opened : length (σ .calls) ≡ w .opened = ap (λ (u : WatchState). u .opened) (r .padded) in
       let main = ap (λ (x : Moved). x .main) (em ∙ moves) in
       let variables = ap (λ (x : Moved). x .variables) (em ∙ moves) in
@@ -114,7 +110,7 @@ module _ {s : List ℕ} {t : Tables} {c : List ℕ} (p : Prepared s t c) (w : Wa
       let kept : callOf (event .number) (event .unit) k ≡ padCall (new .call) = rw ek in
       let size = length-append (σ .calls) (new ∷ []) in
       let longer : w .opened + 1 ≡ length (σ .calls ++ new ∷ []) = omega arith in
-      let row-calls = ec ∙ row-more (λ (x : Armed). padCall (x .call)) zeroCall 16 (w .calls) (σ .calls) new n _ (ap (λ (u : WatchState). u .calls) (r .padded)) (en ∙ sym opened) room kept in
-      let row-arms = er ∙ row-more (λ (x : Armed). padArms (x .armed)) zeroArms 16 (w .arms) (σ .calls) new n b (ap (λ (u : WatchState). u .arms) (r .padded)) (en ∙ sym opened) room armed in
+      let row-calls = ec ∙ row-more (λ (x : Armed). padCall (x .call)) zeroCall 16 (w .calls) (σ .calls) new n _ (ap (λ (u : WatchState). u .calls) (r .padded)) (en ∙ sym opened) kept in
+      let row-arms = er ∙ row-more (λ (x : Armed). padArms (x .armed)) zeroArms 16 (w .arms) (σ .calls) new n b (ap (λ (u : WatchState). u .arms) (r .padded)) (en ∙ sym opened) armed in
       let judged : o ≡ outcomeOf (verdict (commonOf s) (w .position + 1) (to .main) none) = eo ∙ rw (main, p .tables) in
       λ j. stateOf (main j) (variables j) (longer j) (row-calls j) (row-arms j) (w .position + 1) (judged j)

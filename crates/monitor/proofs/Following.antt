@@ -1,22 +1,18 @@
 -- The engine on a sheet, as one that runs logs. Assumes nothing.
-use mathlib.Core.Path.{_≡_, refl, ap, _∙_}
+use mathlib.Core.Path.{refl}
 use mathlib.Core.List.{List}
-use Prim.Native.Nat.{ℕ, _+_, _*_}
-use Rattle.sheet.specs.Bytes.{byte}
+use Prim.Native.Nat.{ℕ}
 use Rattle.sheet.specs.Decode.{sheetOf}
 use Rattle.sheet.specs.Reading.{sheetLayout}
-use Rattle.sheet.specs.Log.{recordSize}
 use Rattle.sheet.proofs.Accepted.{Accepted}
 use Rattle.step.specs.declared.RunAnswer.the-variants.{Clean}
 use Rattle.step.proofs.Runs.{offered-answer}
 use Rattle.step.proofs.Following.{Engine, Works}
 use Rattle.monitor.specs.declared.WatchState.{WatchState}
-use Rattle.monitor.specs.declared.event.Tables.{Tables}
 use Rattle.monitor.specs.Monitor.{State, fresh, refusal, offer, run}
 use Rattle.monitor.specs.Sound.{sound}
 use Rattle.monitor.specs.Padded.{pad, view}
 use Rattle.monitor.specs.Answers.{endsIn}
-use Rattle.monitor.specs.Walk.{Prepared}
 use Rattle.monitor.proofs.Soundness.{fresh-sound, offer-sound}
 use Rattle.monitor.proofs.Views.{view-back}
 
@@ -48,11 +44,3 @@ works {s} a =
       shows = λ σ. refl;
       ending = λ σ. refl;
     }
-
--- how many bytes a record has, and how many values
-module _ {s : List ℕ} {t : Tables} {c : List ℕ} (p : Prepared s t c) (n : ℕ) (e : n ≡ t .header .programs) where
-  pub values-count : n ≡ byte s 5
-  values-count = e ∙ ap (λ (x : Tables). x .header .programs) (p .tables)
-
-  pub record-size : 4 + 4 * n ≡ recordSize (byte s 5)
-  record-size = ap recordSize values-count

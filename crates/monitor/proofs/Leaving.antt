@@ -5,10 +5,9 @@ use mathlib.Core.Option.{Option}
 use mathlib.Core.List.{List, [], _∷_, map}
 use Prim.Native.Nat.{ℕ, _+_, _-_, _≤_, _<_}
 use native.Mathlib.Omega.{arith}
-use borrow.Author.Tests.{ltb-true, eq-eqb, not-false}
+use borrow.Author.Tests.{ltb-true}
 use lib.Dec.{eqb, ltb}
-use lib.ListN.{length, getD, take, length-map}
-use lib.Seq.{getD-take}
+use lib.ListN.{length, getD, take}
 use Rattle.condition.specs.Meaning.{environment}
 use Rattle.sheet.specs.declared.Triple.{Triple}
 use Rattle.sheet.specs.declared.Record.{Record}
@@ -30,7 +29,8 @@ use Rattle.step.specs.Walk.{meetsAt, placeOf, leastOf, eventOf, numberIn}
 use Rattle.step.specs.Padding.{zeroCall, padCall}
 use Rattle.step.proofs.Lists.{Among, any-map, first-passes, kept-passes}
 use Rattle.step.proofs.Searching.{any-place}
-use Rattle.step.proofs.Keeping.{every-among, keep-map, place-map, image-at, first-place, any-weaker, keep-same, one-fewer, number-least}
+use Rattle.step.proofs.Refusing.{exit-open}
+use Rattle.step.proofs.Keeping.{every-among, row-out, row-left, row-place, row-at, first-place, keep-same, one-fewer, number-least}
 use Rattle.step.proofs.Bridge.{conditionPlaces, after-meets}
 use Rattle.step.proofs.Moving.{moved-fits}
 use Rattle.step.proofs.Rooms.{take-fit, take-fitted}
@@ -73,33 +73,23 @@ module _ (n : ℕ) (l : List Armed) (few : length l ≤ 16) where
   abbrev armedIn : Armed → Arms
   armedIn a = padArms (a .armed)
 
-  calls-out : take (length l) (callsIn l) ≡ map (λ (a : Armed). padCall (a .call)) l
-  calls-out = take-fitted zeroCall 16 (length l) (map callIn l) (length-map l callIn) few
-
-  arms-out : take (length l) (armsIn l) ≡ map (λ (a : Armed). padArms (a .armed)) l
-  arms-out = take-fitted zeroArms 16 (length l) (map armedIn l) (length-map l armedIn) few
-
   calls-left : fit 16 zeroCall (keep (λ (c : Call). not (eqb (c .number) n)) (take (length l) (callsIn l))) ≡ callsIn (keep (λ a. not (ofNumber n a)) l)
-  calls-left =
-      let q : Call → Bool = λ c. not (eqb (c .number) n) in
-      ap (λ (r : List Call). fit 16 zeroCall (keep q r)) calls-out ∙ ap (fit 16 zeroCall) (keep-map q callIn l)
+  calls-left = row-left callIn zeroCall 16 l few (λ (c : Call). not (eqb (c .number) n))
 
   arms-left : fit 16 zeroArms (keepBeside (λ (c : Call). not (eqb (c .number) n)) (take (length l) (callsIn l)) (take (length l) (armsIn l))) ≡ armsIn (keep (λ a. not (ofNumber n a)) l)
   arms-left =
       let q : Call → Bool = λ c. not (eqb (c .number) n) in
-      ap₂ (λ (r : List Call) (t : List Arms). fit 16 zeroArms (keepBeside q r t)) calls-out arms-out ∙ ap (fit 16 zeroArms) (beside-map q callIn armedIn l)
+      ap₂ (λ (r : List Call) (t : List Arms). fit 16 zeroArms (keepBeside q r t)) (row-out callIn zeroCall 16 l few) (row-out armedIn zeroArms 16 l few) ∙ ap (fit 16 zeroArms) (beside-map q callIn armedIn l)
 
   place-in : placeOf (λ (c : Call). eqb (c .number) n) (take (length l) (callsIn l)) ≡ placeOf (ofNumber n) l
-  place-in =
-      let q : Call → Bool = λ c. eqb (c .number) n in
-      ap (placeOf q) calls-out ∙ place-map q callIn l
+  place-in = row-place callIn zeroCall 16 l few (λ (c : Call). eqb (c .number) n)
 
   module _ (i : ℕ) (h : i < length l) where
     call-at : (d : Call) → getD (callsIn l) i d ≡ padCall (getD l i noArmed .call)
-    call-at d = sym (getD-take (length l) (callsIn l) i d h) ∙ ap (λ (r : List Call). getD r i d) calls-out ∙ image-at callIn d noArmed l i h
+    call-at d = row-at callIn zeroCall 16 l few d noArmed i h
 
     arms-at : (d : Arms) → getD (armsIn l) i d ≡ padArms (getD l i noArmed .armed)
-    arms-at d = sym (getD-take (length l) (armsIn l) i d h) ∙ ap (λ (r : List Arms). getD r i d) arms-out ∙ image-at armedIn d noArmed l i h
+    arms-at d = row-at armedIn zeroArms 16 l few d noArmed i h
 
 -- The triples armed for a call of a sound state fail at its exit as the definition says.
 module _ {s : List ℕ} (a : Accepted sheetLayout s) (k : Configuration) (e : Event) (p : length (e .values) ≡ commonOf s .programs) (c : Armed) (h : callSound (sheetOf s) c ≡ true) where
@@ -161,11 +151,7 @@ leftBy s t index e noCall noArms w =
 -- An exit that is not refused, on a sound state.
 module _ {s : List ℕ} (a : Accepted sheetLayout s) (σ : State) (e : Event) (h : sound (sheetOf s) σ ≡ true) (z : refusal (sheetOf s) σ e ≡ 0) (x : e .kind ≡ 1) where
   number-open : any (ofNumber (e .number)) (σ .calls) ≡ true
-  number-open =
-      let q : Calls.Call → Bool = λ c. eqb (c .number) (e .number) && eqb (c .unit) (e .unit) in
-      let o : Calls.openFor e (map (λ (c : Armed). c .call) (σ .calls)) ≡ true = not-false _ (rw (eq-eqb (e .kind) 1 x) at (free (sheetOf s) σ e z .isOpen)) in
-      any-weaker (ofNumber (e .number)) (λ (c : Armed). q (c .call)) (λ c m. and-parts (eqb (c .call .number) (e .number)) (eqb (c .call .unit) (e .unit)) m .0) (σ .calls)
-      (sym (any-map q (λ (c : Armed). c .call) (σ .calls)) ∙ o)
+  number-open = sym (any-map (λ (c : Calls.Call). eqb (c .number) (e .number)) (λ (c : Armed). c .call) (σ .calls)) ∙ exit-open (free (sheetOf s) σ e z) x
 
   calls-few : length (σ .calls) ≤ 16
   unfolding sound

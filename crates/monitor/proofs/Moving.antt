@@ -10,20 +10,20 @@ use Rattle.condition.specs.Meaning.{environment}
 use Rattle.sheet.specs.declared.Record.{Record}
 use Rattle.sheet.specs.Bytes.{byte}
 use Rattle.sheet.specs.Parts.{Sheet}
-use Rattle.sheet.specs.Decode.{transitionForm, transitionsAt, lastAt, commonOf, sheetOf}
+use Rattle.sheet.specs.Decode.{commonOf, sheetOf}
 use Rattle.sheet.specs.Reading.{transitionsOf, reading, sheetLayout}
 use Rattle.sheet.specs.Log.{Event}
 use Rattle.sheet.specs.declared.Header.{Header}
 use Rattle.sheet.specs.declared.Places.{Places}
 use Rattle.sheet.specs.Answer.{headerOf, placesOf}
-use Rattle.sheet.proofs.Accepted.{Accepted, accepted, reading-accepted, bounds, tables-end}
-use Rattle.sheet.proofs.Limits.{sheet-longest}
+use Rattle.sheet.proofs.Accepted.{accepted, bounds}
+use Rattle.sheet.proofs.Limits.{sheet-longest, table-places}
 use Rattle.step.specs.declared.Found.{Found}
 use Rattle.step.specs.declared.Moved.{Moved}
 use Rattle.step.specs.Lists.{first}
 use Rattle.step.specs.Moves.{enabled}
 use Rattle.step.specs.Walk.{enabledAt, baseForm, firstPlace, eventOf, movedAt}
-use Rattle.step.proofs.Refusing.{below-last}
+use Rattle.step.proofs.Refusing as Refusing
 use Rattle.step.proofs.Bridge.{foundAt, first-enabled-sheet}
 use Rattle.step.proofs.Moving.{sheet-good, held, taken-moves}
 use Rattle.monitor.specs.declared.event.Tables.{Tables}
@@ -35,6 +35,9 @@ use Rattle.monitor.proofs.Calls.{free}
 
 -- from the tables and indexes that are lent
 module _ {s : List ℕ} {t : Tables} {c : List ℕ} (p : Prepared s t c) where
+  pub header-there : t .header ≡ headerOf s
+  header-there = ap (λ (x : Tables). x .header) (p .tables)
+
   pub monitors-few : t .header .monitors ≤ 4
   unfolding commonOf
   monitors-few = rw (p .tables) (bounds (accepted sheetLayout s (p .accepted)) .monitors)
@@ -55,21 +58,13 @@ module _ {s : List ℕ} {t : Tables} {c : List ℕ} (p : Prepared s t c) where
       let there : foundAt s f ≡ first (enabled (commonOf s) k₀ e) (transitionsOf sheetLayout s) = rw (h, n, p .tables, p .conditions) (first-enabled-sheet a k₀ e v (length-take-le (commonOf s .monitors) variables few)) in
       rw (k, n, p .tables, q) (taken-moves a (omega arith) (transitionsOf sheetLayout s) (λ u m. sheet-good a u m .action) main variables e v few f there)
 
--- The tables begin within the longest sheet, so their places are words of 16 bits.
-pub table-places : {s : List ℕ} → Accepted sheetLayout s → (transitionsAt s < 65536) × (lastAt transitionForm s < 65536)
-unfolding lastAt
-table-places {s} a =
-    let h = sheet-longest s (reading-accepted sheetLayout s a) in
-    let e = tables-end a in
-    (omega arith, omega arith)
-
 -- what reading a sheet leaves behind
 abbrev tablesWith : Header → ℕ → ℕ → Tables
 tablesWith h transitions triples = record { header = h; transitions = transitions; triples = triples }
 
 module _ (s : List ℕ) (h : reading sheetLayout s ≡ 0) (q : Places) (e : q ≡ placesOf sheetLayout s) where
   pub places-fit : (q .transitions < 65536) × (q .last < 65536)
-  places-fit = rw e (table-places (accepted sheetLayout s h))
+  places-fit = rw e (table-places (accepted sheetLayout s h) (omega (arith, sheet-longest s h)))
 
   pub prepared-with : (x : Header) → x ≡ headerOf s → (t : Tables) → t ≡ tablesWith x (q .transitions) (q .last) → Prepared s t (q .conditions)
   prepared-with x f t g = record { accepted = h; tables = rw (g, f, e); conditions = ap (λ (p : Places). p .conditions) e }
@@ -80,4 +75,4 @@ module _ (s : List ℕ) (h : reading sheetLayout s ≡ 0) (q : Places) (e : q �
 -- An event that is not refused has a position to come.
 pub position-fits : (S : Sheet) (w : WatchState) (e : Event) → refusal S (view S w) e ≡ 0 → w .position < 4294967296 → w .position + 1 < 4294967296
 unfolding view
-position-fits S w e z h = below-last (w .position) h (free S (view S w) e z .notLast)
+position-fits S w e z h = Refusing.position-fits (free S (view S w) e z) h

@@ -2,7 +2,7 @@
 use mathlib.Core.Path.{_≡_, refl}
 use mathlib.Core.Bool.{true}
 use mathlib.Core.List.{List}
-use Prim.Native.Nat.{ℕ, _+_, _*_, _≤_}
+use Prim.Native.Nat.{ℕ, _+_, _*_, _≤_, _<_}
 use native.Mathlib.Omega.{arith}
 use native.Mathlib.Nat.{le-refl, mul-le-mul-right}
 use lib.ListN.{length, drop}
@@ -54,6 +54,13 @@ sheet-longest s h = length-bound (accepted sheetLayout s h) 6 4 (λ t. refl) (λ
 -- 14 and 4 values, 65 conditions, 33 actions, 96 transitions of 7 bytes and 4 pairs, 32 templates of 2
 pub network-longest : (s : List ℕ) → reading networkLayout s ≡ 0 → length s ≤ 7904
 network-longest s h = length-bound (accepted networkLayout s h) 15 2 (λ t. refl) (λ t e. omega (arith, simp (and-iff, leb-iff) at e)) (λ t. refl)
+
+-- The tables begin within the bytes, so their places are words of 16 bits.
+pub table-places : {T R : Type 0} {F : Layout T R} {s : List ℕ} → Accepted F s → length s < 65536 → (transitionsAt s < 65536) × (lastAt (F .transition) s < 65536)
+unfolding lastAt
+table-places a h =
+    let e = tables-end a in
+    (omega arith, omega arith)
 
 pub encode-longest : (N : Network) → admitted N ≡ true → length (encode N) ≤ 7904
 encode-longest N h = network-longest (encode N) (reading-encode N h)

@@ -7,7 +7,7 @@ use Prim.Native.Nat.{ℕ, zero, suc, _+_, _≤_, _<_}
 use native.Mathlib.Omega.{arith}
 use borrow.Author.Tests.{lt-ltb}
 use lib.Dec.{eqb}
-use lib.ListN.{length, getD, take, drop, List·getD-map, length-map}
+use lib.ListN.{length, getD, take, drop}
 use lib.Seq.{drop-drop, length-take-le}
 use Rattle.condition.specs.declared.Lent.{Lent}
 use Rattle.condition.specs.Tree.{Condition, Assignment, conditionNames, actionNames, isMonitor, isAtEntry}
@@ -18,10 +18,10 @@ use Rattle.condition.proofs.Naming.{unkept, unmonitored, entry-narrow, monitor-
 use Rattle.sheet.specs.declared.Transition.{Transition}
 use Rattle.sheet.specs.Table.{Form, table, records, starts, fit}
 use Rattle.sheet.specs.Parts.{Paired}
-use Rattle.sheet.specs.Decode.{textForm, transitionOf, pairedForm, conditionsIn, actionsIn, transitionsIn, conditionsAt, actionsAt, transitionsAt, commonOf}
+use Rattle.sheet.specs.Decode.{textForm, transitionOf, transitionForm, pairedForm, conditionsIn, actionsIn, transitionsIn, conditionsAt, actionsAt, transitionsAt, commonOf}
 use Rattle.sheet.specs.Reading.{Layout, lentIn, conditionIn, namesEntry, namesMonitor, transitionsOf, lastOf, sheetLayout, networkLayout}
 use Rattle.sheet.specs.Log.{Event}
-use Rattle.sheet.proofs.Tables.{and-assoc, length-records, indexed, same-records}
+use Rattle.sheet.proofs.Tables.{and-assoc, length-records, indexed}
 use Rattle.sheet.proofs.Accepted.{Accepted, GoodTransition, bounds, condition-formed, action-formed, action-entry, sheet-transition, network-transition}
 use Rattle.step.specs.declared.Key.{Key}
 use Rattle.step.specs.declared.Found.{Found}
@@ -167,20 +167,27 @@ action-acts {F} {s} a few i h values variables p m =
     let u = run-without-entry g (run-named g (λ d. actionNames d isAtEntry) (action-entry F C (transitionsOf F s) (lastOf F s) (a .roled) i)) in
     rw (lt-ltb i 65 (omega arith), action-there a i few h, run-meant g E) (run-outcome u E (C .monitors) variables l)
 
--- The record at the place that was found.
-abbrev pub foundAt : List ℕ → Found → Option Transition
-foundAt s Nothing = none
-foundAt s (At p) = some (transitionOf (drop p s))
+-- What is read at the place that was found: a transition, and one with its pairs.
+abbrev readAt : {A : Type 0} → (List ℕ → A) → List ℕ → Found → Option A
+readAt value s Nothing = none
+readAt value s (At p) = some (value (drop p s))
 
-module _ (q : Transition → Bool) (G : Form Transition) (h : (t : List ℕ) → G .value t ≡ transitionOf t) where
-  pub first-found : (n : ℕ) (s : List ℕ) (a : ℕ) → foundAt s (firstPlace q G n s a) ≡ first q (table G n s a)
+abbrev pub foundAt : List ℕ → Found → Option Transition
+foundAt = readAt transitionOf
+
+abbrev pub pairedAt : List ℕ → Found → Option Paired
+pairedAt = readAt (pairedForm .value)
+
+-- looking through a table for what f makes of the records of another form, at the same places
+module _ {A B : Type 0} (q : A → Bool) (F : Form A) (G : Form B) (f : B → A) (sized : (t : List ℕ) → F .size t ≡ G .size t) (valued : (t : List ℕ) → F .value t ≡ f (G .value t)) where
+  first-found : (n : ℕ) (s : List ℕ) (a : ℕ) → readAt (G .value) s (firstPlace q F n s a) ≡ first (λ x. q (f x)) (table G n s a)
   unfolding firstPlace first records
   first-found zero s a = refl
-  first-found (suc n) s a = rw drop-drop (go (q (G .value (drop a s))) _ (first-found n s (a + G .size (drop a s))))
+  first-found (suc n) s a = rw (drop-drop, valued (drop a s), sized (drop a s)) (go (q (f (G .value (drop a s)))) _ (first-found n s (a + G .size (drop a s))))
     where
-      go : (b : Bool) (f : Found) {l : Option Transition} → foundAt s f ≡ l → foundAt s (cond b (At a) f) ≡ cond b (some (G .value (drop a s))) l
-      go true f e = ap some (sym (h (drop a s)))
-      go false f e = e
+      go : (b : Bool) (x : Found) {l : Option B} → readAt (G .value) s x ≡ l → readAt (G .value) s (cond b (At a) x) ≡ cond b (some (G .value (drop a s))) l
+      go true x e = refl
+      go false x e = e
 
 pub first-same : {A : Type 0} (q r : A → Bool) (d : A) (l : List A) → ((i : ℕ) → i < length l → q (getD l i d) ≡ r (getD l i d)) → first q l ≡ first r l
 unfolding first
@@ -209,15 +216,37 @@ noPaired = record { base = transitionOf []; pairs = [] }
 pub first-enabled-sheet : {s : List ℕ} (a : Accepted sheetLayout s) (k : Configuration) (e : Event) → length (e .values) ≡ commonOf s .programs → length (k .variables) ≡ commonOf s .monitors
     → foundAt s (firstPlace (enabledAt s (conditionPlaces s) (keyOf k e) (seen e k)) (baseForm false) (transitionsIn s) s (transitionsAt s)) ≡ first (enabled (commonOf s) k e) (transitionsOf sheetLayout s)
 first-enabled-sheet {s} a k e p m =
-    first-found _ (baseForm false) (λ t. refl) (transitionsIn s) s (transitionsAt s)
+    first-found _ (baseForm false) transitionForm (λ t. t) (λ t. refl) (λ t. refl) (transitionsIn s) s (transitionsAt s)
     ∙ first-same _ _ noTransition (transitionsOf sheetLayout s) (λ i h. enabled-same a (omega arith) k e p m (sheet-transition a i noTransition h))
+
+-- with its pairs, and without them
+pub first-paired : {s : List ℕ} (a : Accepted networkLayout s) (k : Configuration) (e : Event) → length (e .values) ≡ commonOf s .programs → length (k .variables) ≡ commonOf s .monitors
+    → pairedAt s (firstPlace (enabledAt s (conditionPlaces s) (keyOf k e) (seen e k)) (baseForm true) (transitionsIn s) s (transitionsAt s)) ≡ first (λ (t : Paired). enabled (commonOf s) k e (t .base)) (transitionsOf networkLayout s)
+first-paired {s} a k e p m =
+    first-found _ (baseForm true) pairedForm (λ t. t .base) (λ t. refl) (λ t. refl) (transitionsIn s) s (transitionsAt s)
+    ∙ first-same _ _ noPaired (transitionsOf networkLayout s) (λ i h. enabled-same a (omega arith) k e p m (network-transition a i noPaired h))
+
+abbrev baseOf : Option Paired → Option Transition
+baseOf none = none
+baseOf (some t) = some (t .base)
+
+base-found : (s : List ℕ) (f : Found) → foundAt s f ≡ baseOf (pairedAt s f)
+base-found s Nothing = refl
+base-found s (At p) = refl
+
+first-image : (q : Transition → Bool) (l : List Paired) → first q (map (λ (t : Paired). t .base) l) ≡ baseOf (first (λ (t : Paired). q (t .base)) l)
+unfolding first
+first-image q [] = refl
+first-image q (t ∷ l) = go (q (t .base)) (first-image q l)
+  where
+    go : (b : Bool) → first q (map (λ (t : Paired). t .base) l) ≡ baseOf (first (λ (t : Paired). q (t .base)) l) → cond b (some (t .base)) (first q (map (λ (t : Paired). t .base) l)) ≡ baseOf (cond b (some t) (first (λ (t : Paired). q (t .base)) l))
+    go true h = refl
+    go false h = h
 
 pub first-enabled-network : {s : List ℕ} (a : Accepted networkLayout s) (k : Configuration) (e : Event) → length (e .values) ≡ commonOf s .programs → length (k .variables) ≡ commonOf s .monitors
     → foundAt s (firstPlace (enabledAt s (conditionPlaces s) (keyOf k e) (seen e k)) (baseForm true) (transitionsIn s) s (transitionsAt s)) ≡ first (enabled (commonOf s) k e) (map (λ t. t .base) (transitionsOf networkLayout s))
 first-enabled-network {s} a k e p m =
     let ts = transitionsOf networkLayout s in
-    first-found _ (baseForm true) (λ t. refl) (transitionsIn s) s (transitionsAt s)
-    ∙ ap (first _) (same-records (baseForm true) pairedForm (λ t. refl) (λ t. t .base) (λ t. refl) (transitionsIn s) (drop (transitionsAt s) s))
-    ∙ first-same _ _ (noPaired .base) (map (λ t. t .base) ts) (λ i h.
-    rw (List·getD-map (λ (t : Paired). t .base) ts i noPaired)
-    (enabled-same a (omega arith) k e p m (network-transition a i noPaired (rw length-map at h))))
+    base-found s (firstPlace (enabledAt s (conditionPlaces s) (keyOf k e) (seen e k)) (baseForm true) (transitionsIn s) s (transitionsAt s))
+    ∙ ap baseOf (first-paired a k e p m)
+    ∙ sym (first-image (enabled (commonOf s) k e) ts)

@@ -9,12 +9,13 @@ use native.Mathlib.Numerals.{add-one}
 use native.Mathlib.Omega.{arith}
 use lib.ListN.{length, take, drop}
 use lib.Seq.{drop-drop}
+use Rattle.sheet.specs.declared.Header.{Header}
 use Rattle.sheet.specs.declared.Record.{Record}
-use Rattle.sheet.specs.Bytes.{word}
+use Rattle.sheet.specs.Bytes.{byte, word}
 use Rattle.sheet.specs.Table.{records, table, fit}
 use Rattle.sheet.specs.Decode.{wordForm}
 use Rattle.sheet.specs.Log.{Event, recordSize, eventForm, logReading, recordsIn, eventsOf}
-use Rattle.sheet.specs.Answer.{recordOf}
+use Rattle.sheet.specs.Answer.{headerOf, recordOf}
 use Rattle.sheet.proofs.Accepted.{unless-iff}
 use Rattle.sheet.proofs.Tables.{length-records}
 use Rattle.sheet.proofs.Tests.{and-iff, leb-iff, eqb-iff}
@@ -29,12 +30,20 @@ use Rattle.step.specs.Runs.{Offered, Ran, unlessJudged, unlessRefusedAt,
 use Rattle.step.specs.Answers.{ranAnswer}
 use Rattle.step.proofs.Rooms.{take-fitted, verdict-outcome}
 
--- A record of the log as an event: its first bytes, and P words behind them.
-pub event-there : (P : ℕ) → P ≤ 8 → (log : List ℕ) (at : ℕ) (r : Record) → r ≡ recordOf (drop at log) → (n : ℕ) → n ≡ P → (m : ℕ) → m ≡ P → (words : List ℕ) → words ≡ fit 8 0 (table wordForm m log (at + 4))
-    → eventOf r (take n words) ≡ eventForm P .value (drop at log)
-event-there P few log at r er n en m em words ew =
-    let values = take-fitted 0 8 P (table wordForm P log (at + 4)) (length-records wordForm P (drop (at + 4) log)) few in
-    rw (er, en, ew, em, values, drop-drop)
+-- A record of the log, by the header that is lent: how many bytes it has, and the event that it is, its first bytes and P words behind them.
+module _ (s : List ℕ) (h : Header) (e : h ≡ headerOf s) where
+  values-in : h .programs ≡ byte s 5
+  values-in = ap (λ (x : Header). x .programs) e
+
+  pub record-size : (n : ℕ) → n ≡ h .programs → 4 + 4 * n ≡ recordSize (byte s 5)
+  record-size n f = ap recordSize (f ∙ values-in)
+
+  pub event-read : h .programs ≤ 8 → (log : List ℕ) (at : ℕ) (r : Record) → r ≡ recordOf (drop at log) → (n : ℕ) → n ≡ h .programs → (words : List ℕ) → words ≡ fit 8 0 (table wordForm (h .programs) log (at + 4))
+      → eventOf r (take n words) ≡ eventForm (byte s 5) .value (drop at log)
+  event-read few log at r er n en words ew =
+      let P = h .programs in
+      let values = take-fitted 0 8 P (table wordForm P log (at + 4)) (length-records wordForm P (drop (at + 4) log)) few in
+      rw (er, en, ew, values, ← values-in, drop-drop)
 
 -- What reading a log leaves: it says its length, and its records fill it.
 pub log-length : (P : ℕ) (log : List ℕ) → logReading P log ≡ 0 → word log 0 ≡ length log

@@ -1,7 +1,7 @@
 -- Laws of lists whose elements are kept by a test: their images, their numbers, their places, the least of them. Assumes nothing.
 use mathlib.Core.Path.{_≡_, refl, sym, ap, subst, _∙_}
 use mathlib.Core.Logic.{inl, inr}
-use mathlib.Core.Bool.{Bool, true, false, not, cond, false≢true}
+use mathlib.Core.Bool.{Bool, true, false, not, cond, _&&_, false≢true}
 use mathlib.Core.Option.{Option, none, some}
 use mathlib.Core.List.{List, [], _∷_, _++_, map}
 use Prim.Native.Nat.{ℕ, zero, suc, _+_, min, _≤_, _<_}
@@ -9,9 +9,9 @@ use native.Mathlib.Numerals.{add-one}
 use native.Mathlib.Omega.{arith}
 use borrow.Author.Tests.{lt-ltb, eqb-true, eqb-false, ne-eqb}
 use lib.Dec.{eqb}
-use lib.ListN.{length, getD, take, drop, length-take}
+use lib.ListN.{length, getD, take, drop, length-map, length-take}
 use lib.Seq.{getD-take}
-use Rattle.sheet.specs.Table.{every}
+use Rattle.sheet.specs.Table.{every, fit}
 use Rattle.sheet.proofs.Tables.{and-parts, and-both}
 use Rattle.sheet.proofs.Tests.{and-iff, not-iff}
 use Rattle.step.specs.Lists.{first, keep, any, lesser, least, distinct}
@@ -19,6 +19,7 @@ use Rattle.step.specs.Walk.{placeOf, leastOf, numberIn}
 use Rattle.step.proofs.Lists.{Among, any-map, least-some}
 use Rattle.step.proofs.Filling.{keep-none-left, keep-here, keep-not-here}
 use Rattle.step.proofs.Turns.{distinct-snoc}
+use Rattle.step.proofs.Rooms.{take-fitted}
 
 -- What holds of all elements holds of each of them.
 pub every-among : {A : Type 0} (p : A → Bool) (l : List A) (x : A) → every p l ≡ true → Among x l → p x ≡ true
@@ -106,6 +107,20 @@ image-at f d e [] i h = absurd (omega arith)
 image-at f d e (x ∷ l) zero h = refl
 image-at f d e (x ∷ l) (suc i) h = image-at f d e l i (omega arith)
 
+-- A row with the images of a list in front: what stands there and where, and what is left where those that fail a test go.
+module _ {A B : Type 0} (f : A → B) (d : B) (size : ℕ) (l : List A) (few : length l ≤ size) where
+  pub row-out : take (length l) (fit size d (map f l)) ≡ map f l
+  row-out = take-fitted d size (length l) (map f l) (length-map l f) few
+
+  pub row-left : (q : B → Bool) → fit size d (keep q (take (length l) (fit size d (map f l)))) ≡ fit size d (map f (keep (λ x. q (f x)) l))
+  row-left q = ap (λ (r : List B). fit size d (keep q r)) row-out ∙ ap (fit size d) (keep-map q f l)
+
+  pub row-place : (q : B → Bool) → placeOf q (take (length l) (fit size d (map f l))) ≡ placeOf (λ x. q (f x)) l
+  row-place q = ap (placeOf q) row-out ∙ place-map q f l
+
+  pub row-at : (c : B) (e : A) (i : ℕ) → i < length l → getD (fit size d (map f l)) i c ≡ f (getD l i e)
+  row-at c e i h = sym (getD-take (length l) (fit size d (map f l)) i c h) ∙ ap (λ (r : List B). getD r i c) row-out ∙ image-at f c e l i h
+
 -- Of a list: the first that passes a test stands at its place; a weaker test is passed too; tests that agree on its elements keep the same.
 module _ {A : Type 0} (p : A → Bool) where
   pub first-place : (d : A) (l : List A) → any p l ≡ true → first p l ≡ some (getD l (placeOf p l) d)
@@ -131,6 +146,16 @@ module _ {A : Type 0} (p : A → Bool) where
   unfolding keep
   keep-same q [] h = refl
   keep-same q (x ∷ l) h = rw (h x (inl refl), keep-same q l (λ y m. h y (inr m)))
+
+  -- by two tests at once, and by one after the other
+  pub keep-both : (q : A → Bool) (l : List A) → keep (λ x. p x && q x) l ≡ keep q (keep p l)
+  unfolding keep
+  keep-both q [] = refl
+  keep-both q (x ∷ l) = go (p x) (keep-both q l)
+    where
+      go : (b : Bool) → keep (λ x. p x && q x) l ≡ keep q (keep p l) → cond (b && q x) (x ∷ keep (λ x. p x && q x) l) (keep (λ x. p x && q x) l) ≡ keep q (cond b (x ∷ keep p l) (keep p l))
+      go true h = rw h
+      go false h = h
 
 -- Of different numbers all but one stay.
 module _ {A : Type 0} (f : A → ℕ) (n : ℕ) where

@@ -5,12 +5,13 @@ use mathlib.Core.Bool.{Bool, true, false, not, cond, _&&_, false≢true}
 use mathlib.Core.List.{List, map}
 use Prim.Native.Nat.{ℕ, _+_, min, _≤_, _<_}
 use native.Mathlib.Omega.{arith}
-use borrow.Author.Tests.{lt-ltb, le-ltb, ltb-true, ltb-false, le-leb, lt-leb, leb-true, leb-false, eqb-false}
+use borrow.Author.Tests.{lt-ltb, le-ltb, ltb-true, ltb-false, le-leb, lt-leb, leb-true, leb-false, eqb-false, eq-eqb, not-false}
 use lib.Dec.{leb, ltb, eqb}
 use lib.ListN.{length, take, length-take, length-map}
 use Rattle.sheet.specs.declared.Record.{Record}
 use Rattle.sheet.specs.Parts.{Common}
 use Rattle.sheet.specs.Log.{Event}
+use Rattle.sheet.proofs.Tables.{and-parts}
 use Rattle.sheet.proofs.Tests.{and-iff, leb-iff, eqb-iff}
 use Rattle.step.specs.declared.Call.{Call}
 use Rattle.step.specs.Lists.{any}
@@ -19,6 +20,7 @@ use Rattle.step.specs.Calls.{isEntry, isExit, openNumber, openFor, mostC
 use Rattle.step.specs.Walk.{placeOf, unpad, eventOf}
 use Rattle.step.proofs.Lists.{any-map}
 use Rattle.step.proofs.Searching.{any-place}
+use Rattle.step.proofs.Keeping.{any-weaker}
 
 -- below the lesser of two is below both
 below-min : (k m n : ℕ) → (ltb k m && ltb k n) ≡ ltb k (min m n)
@@ -85,7 +87,7 @@ free C judged position calls e h =
     record { unjudged = a; kind = k; unit = u; values = v; notLast = c; notOpen = d; room = f; isOpen = g }
 
 -- A position that is not the last has one to come.
-pub below-last : (n : ℕ) → n < 4294967296 → eqb n 4294967295 ≡ false → n + 1 < 4294967296
+below-last : (n : ℕ) → n < 4294967296 → eqb n 4294967295 ≡ false → n + 1 < 4294967296
 below-last n h e = go (ltb n 4294967295) refl
   where
     go : (b : Bool) → ltb n 4294967295 ≡ b → n + 1 < 4294967296
@@ -94,3 +96,17 @@ below-last n h e = go (ltb n 4294967295) refl
         let k = ltb-false n 4294967295 q in
         let same : n ≡ 4294967295 = omega arith in
         absurd (eqb-false n 4294967295 e same)
+
+-- So there is one to come after an event that is not refused; at an entry there is room for its call, and at an exit its call is open.
+module _ {C : Common} {judged : Bool} {position : ℕ} {calls : List Calls.Call} {e : Event} (f : Free C judged position calls e) where
+  pub position-fits : position < 4294967296 → position + 1 < 4294967296
+  position-fits h = below-last position h (f .notLast)
+
+  pub entry-room : e .kind ≡ 0 → length calls < 16
+  entry-room h = leb-false 16 (length calls) (rw (eq-eqb (e .kind) 0 h) at (f .room))
+
+  pub exit-open : e .kind ≡ 1 → openNumber (e .number) calls ≡ true
+  exit-open h =
+      let open-for : openFor e calls ≡ true = not-false _ (rw (eq-eqb (e .kind) 1 h) at (f .isOpen)) in
+      any-weaker (λ (c : Calls.Call). eqb (c .number) (e .number)) (λ (c : Calls.Call). eqb (c .number) (e .number) && eqb (c .unit) (e .unit))
+      (λ c t. and-parts (eqb (c .number) (e .number)) (eqb (c .unit) (e .unit)) t .0) calls open-for

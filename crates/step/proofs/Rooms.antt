@@ -2,11 +2,13 @@
 use mathlib.Core.Path.{_≡_, refl, sym, ap, ap₂, _∙_}
 use mathlib.Core.Bool.{Bool, true, _&&_}
 use mathlib.Core.Option.{Option, none, some}
-use mathlib.Core.List.{List, [], _∷_, _++_, map, map-append, map-map}
-use Prim.Native.Nat.{ℕ, zero, suc, _≤_, _<_}
+use mathlib.Core.List.{List, [], _∷_, _++_, map, append-nil, map-append, map-map}
+use Prim.Native.Nat.{ℕ, zero, suc, _≤_}
+use native.Mathlib.Numerals.{add-one}
 use native.Mathlib.Omega.{arith}
 use lib.Dec.{eqb}
-use lib.ListN.{length, getD, set, take, drop, length-map}
+use lib.ListN.{length, getD, set, take, drop, length-append, length-map}
+use lib.Seq.{sets, append-snoc}
 use Rattle.sheet.specs.Table.{every, fit}
 use Rattle.sheet.proofs.Tables.{and-parts, and-both}
 use Rattle.sheet.proofs.Tests.{and-iff, eqb-iff}
@@ -53,19 +55,25 @@ length-fit zero d l = refl
 length-fit (suc n) d [] = ap suc (length-fit n d [])
 length-fit (suc n) d (x ∷ l) = ap suc (length-fit n d l)
 
--- one more element behind those of an array
-pub set-fit : {A : Type 0} (d : A) (n : ℕ) (l : List A) (x : A) → length l < n → set (fit n d l) (length l) x ≡ fit n d (l ++ x ∷ [])
-unfolding fit
-set-fit d zero l x h = absurd (omega arith)
-set-fit d (suc n) [] x h = refl
-set-fit {A} d (suc n) (y ∷ l) x h = ap (λ (m : List A). y ∷ m) (set-fit d n l x (omega arith))
+-- one more element behind those of an array, and more of them; past the end nothing is stored
+module _ {A : Type 0} (d : A) where
+  pub set-fit : (n : ℕ) (l : List A) (x : A) → set (fit n d l) (length l) x ≡ fit n d (l ++ x ∷ [])
+  unfolding fit
+  set-fit zero l x = refl
+  set-fit (suc n) [] x = refl
+  set-fit (suc n) (y ∷ l) x = ap (λ (m : List A). y ∷ m) (set-fit n l x)
 
-pub row-more : {A B : Type 0} (f : B → A) (d : A) (size : ℕ) (row : List A) (l : List B) (x : B) (n : ℕ) (y : A) → fit size d (map f l) ≡ row → n ≡ length l → length l < size → y ≡ f x
+  pub sets-more : (n : ℕ) (l m : List A) → sets (fit n d l) (length l) m ≡ fit n d (l ++ m)
+  sets-more n l [] = ap (fit n d) (sym (append-nil l))
+  sets-more n l (x ∷ m) =
+      let longer : length (l ++ x ∷ []) ≡ suc (length l) = length-append l (x ∷ []) ∙ add-one (length l) in
+      rw (set-fit n l x, ← longer) (sets-more n (l ++ x ∷ []) m ∙ ap (fit n d) (append-snoc l x m))
+
+pub row-more : {A B : Type 0} (f : B → A) (d : A) (size : ℕ) (row : List A) (l : List B) (x : B) (n : ℕ) (y : A) → fit size d (map f l) ≡ row → n ≡ length l → y ≡ f x
     → set row n y ≡ fit size d (map f (l ++ x ∷ []))
-row-more f d size row l x n y e g h k =
-    let long = length-map l f in
-    let there : n ≡ length (map f l) = omega arith in
-    rw (← e, there, k) (set-fit d size (map f l) (f x) (omega arith) ∙ ap (fit size d) (sym (map-append f l (x ∷ []))))
+row-more f d size row l x n y e g k =
+    let there : n ≡ length (map f l) = g ∙ sym (length-map l f) in
+    rw (← e, there, k) (set-fit d size (map f l) (f x) ∙ ap (fit size d) (sym (map-append f l (x ∷ []))))
 
 -- What takes each element apart and puts it together leaves a list as it is; what holds of all elements holds of some of them.
 module _ {C : Type 0} (p : C → Bool) where

@@ -14,8 +14,9 @@ use Rattle.condition.specs.Meaning.{Environment, environment}
 use Rattle.condition.specs.Answer.{Outcome, conditionOutcome, actionOutcome, actionPaper}
 use Rattle.condition.specs.declared.Performed.{Performed}
 use Rattle.sheet.specs.declared.Transition.{Transition}
-use Rattle.sheet.specs.Table.{Form}
+use Rattle.sheet.specs.Table.{Form, after}
 use Rattle.sheet.specs.Decode.{textForm, transitionOf}
+use Rattle.sheet.proofs.Tables.{after-step}
 use Rattle.step.specs.declared.Key.{Key}
 use Rattle.step.specs.declared.Found.{Found}
 use Rattle.step.specs.declared.Found.the-variants.{At, Nothing}
@@ -35,6 +36,12 @@ module _ (s index : List ℕ) (k : Key) (E : Environment) (t u : Transition) (e 
 
   pub enabled-not : (eqb (t .from) (k .from) && (eqb (t .kind) (k .kind) && eqb (t .unit) (k .unit))) ≡ false → false ≡ enabledAt s index k E u
   enabled-not h = rw (← e, h)
+
+nothing-at : {q : ℕ} → Nothing ≡ At q → ⊥
+nothing-at e = let z : _≡_ {A = ℕ} 0 1 = cc in omega arith
+
+placed-at : {a q : ℕ} → At a ≡ At q → a ≡ q
+placed-at e = cc
 
 -- with `left` records to go from `place` on, the first that passes is that of the whole table
 pub record Searching {A : Type 0} (p : A → Bool) (F : Form A) (most n : ℕ) (s : List ℕ) (at place left : ℕ) : Type 0 where
@@ -63,6 +70,17 @@ module _ {A : Type 0} (p : A → Bool) (F : Form A) (most n : ℕ) (s : List ℕ
   unfolding firstPlace
   search-end place zero g z = g .same
   search-end place (suc left) g z = absurd (omega arith)
+
+-- what is found stands within the table
+pub found-within : {A : Type 0} (p : A → Bool) (F : Form A) (n : ℕ) (s : List ℕ) (a q : ℕ) → firstPlace p F n s a ≡ At q → q ≤ after F n s a
+unfolding firstPlace
+found-within p F zero s a q e = absurd (nothing-at e)
+found-within p F (suc n) s a q e = rw (after-step F n s a) (go (p (F .value (drop a s))) e (found-within p F n s (a + F .size (drop a s)) q))
+  where
+    go : (b : Bool) → cond b (At a) (firstPlace p F n s (a + F .size (drop a s))) ≡ At q → (firstPlace p F n s (a + F .size (drop a s)) ≡ At q → q ≤ after F n s (a + F .size (drop a s)))
+        → q ≤ after F n s (a + F .size (drop a s))
+    go true f h = omega (arith, placed-at f)
+    go false f h = h f
 
 module _ (s index : List ℕ) (i : ℕ) (program : List ℕ) (count : ℕ) (variables : List ℕ) (k : ℕ) (e : k ≡ i) where
   pub acted-there : k < 65 → (t : List ℕ) → t ≡ textForm .value (drop (getD index k 0) s) → (d : Performed) → d ≡ actionPaper count variables (actionOutcome t (environment program (take count variables) [])) → d .variables ≡ actedAt s index i program count variables

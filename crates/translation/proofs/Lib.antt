@@ -10,3 +10,4 @@ pub mod Tabling
 pub mod Pairing
 pub mod Adding
 pub mod Putting
+pub mod Cut

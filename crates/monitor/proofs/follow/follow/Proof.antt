@@ -1,5 +1,5 @@
 -- `follow::follow` meets its contract. Assumes nothing.
-use mathlib.Core.Path.{_≡_, refl, sym, _∙_}
+use mathlib.Core.Path.{_≡_, sym, _∙_}
 use Prim.Native.Nat.{_+_, _-_, _*_, _<_}
 use native.Mathlib.Omega.{arith}
 use borrow.Author.Needs.{needs}
@@ -8,11 +8,11 @@ use lib.Seq.{length-take-le}
 use Rattle.sheet.specs.Bytes.{byte}
 use Rattle.sheet.specs.Reading.{sheetLayout}
 use Rattle.sheet.proofs.Accepted.{accepted}
-use Rattle.step.proofs.Following.{event-there, Following, follow-start, follow-ready, follow-end, follow-room, follow-refused, follow-violated, follow-next}
+use Rattle.step.proofs.Following.{record-size, event-read, Following, follow-start, follow-ready, follow-end, follow-room, follow-refused, follow-violated, follow-next}
 use Rattle.monitor.specs.Walk.{Ready}
-use Rattle.monitor.proofs.Moving.{programs-few}
+use Rattle.monitor.proofs.Moving.{header-there, programs-few}
 use Rattle.monitor.proofs.Views.{ready-pad}
-use Rattle.monitor.proofs.Following.{engine, works, values-count, record-size}
+use Rattle.monitor.proofs.Following.{engine, works}
 use Rattle.monitor.proofs.follow.follow.Statement.{statement}
 use Rattle.monitor.proofs.follow.follow.Tie as tie
 
@@ -74,10 +74,7 @@ returns c =
     let a = accepted sheetLayout (b .args .s .now) (p .0 .accepted) in
     let g = c .before .before .before .before .before .before .loop .inv in
     let h = c .before .before .before .before .before .loop-test .taken in
-    let few = programs-few (p .0) in
-    let count = values-count (p .0) _ (c .before .before .before .before .before .before .before .before .before .before .wide .ensures .0) in
-    let programs = values-count (p .0) _ refl in
-    let there = event-there _ (rw programs at few) (b .args .log .now) (c .before .before .before .before .before .before .loop .at) _ (c .before .before .before .before .record-at .ensures) _ count _ programs _ (c .before .before .before .words-at .ensures) in
+    let there = event-read (b .args .s .now) _ (header-there (p .0)) (programs-few (p .0)) (b .args .log .now) (c .before .before .before .before .before .before .loop .at) _ (c .before .before .before .before .record-at .ensures) _ (c .before .before .before .before .before .before .before .before .before .before .wide .ensures .0) _ (c .before .before .before .words-at .ensures) in
     follow-refused (works a) _ (b .args .log .now) _ _ _ _ g h _ there _ (c .before .refusal .ensures) (c .if1 .left)
 
 taken-requires : tie.Need-taken-requires Inv-loop μ-loop
@@ -94,10 +91,7 @@ returns-2 c =
     let a = accepted sheetLayout (b .args .s .now) (p .0 .accepted) in
     let g = c .before .before .before .before .before .before .before .before .before .before .loop .inv in
     let h = c .before .before .before .before .before .before .before .before .before .loop-test .taken in
-    let few = programs-few (p .0) in
-    let count = values-count (p .0) _ (c .before .before .before .before .before .before .before .before .before .before .before .before .before .before .wide .ensures .0) in
-    let programs = values-count (p .0) _ refl in
-    let there = event-there _ (rw programs at few) (b .args .log .now) (c .before .before .before .before .before .before .before .before .before .before .loop .at) _ (c .before .before .before .before .before .before .before .before .record-at .ensures) _ count _ programs _ (c .before .before .before .before .before .before .before .words-at .ensures) in
+    let there = event-read (b .args .s .now) _ (header-there (p .0)) (programs-few (p .0)) (b .args .log .now) (c .before .before .before .before .before .before .before .before .before .before .loop .at) _ (c .before .before .before .before .before .before .before .before .record-at .ensures) _ (c .before .before .before .before .before .before .before .before .before .before .before .before .before .before .wide .ensures .0) _ (c .before .before .before .before .before .before .before .words-at .ensures) in
     follow-violated (works a) _ (b .args .log .now) _ _ _ _ g h _ there (sym (c .before .before .before .before .before .refusal .ensures) ∙ c .before .before .before .before .if1 .taken) _ (c .before .before .before .taken .ensures) _ (c .before .outcome .given .1)
 
 add-at : tie.Need-add-at Inv-loop μ-loop
@@ -108,7 +102,7 @@ add-at c =
     let g = c .before .before .before .before .before .before .before .before .before .loop .inv in
     let h = c .before .before .before .before .before .before .before .before .loop-test .taken in
     let room = follow-room (works a) _ (b .args .log .now) _ _ _ _ g h in
-    let size = record-size (p .0) _ (c .before .before .before .before .before .before .before .before .before .before .before .before .word .ensures .0) in
+    let size = record-size (b .args .s .now) _ (header-there (p .0)) _ (c .before .before .before .before .before .before .before .before .before .before .before .before .word .ensures .0) in
     let small : c .before .before .before .before .before .before .before .before .before .loop .at + (4 + 4 * c .before .before .before .before .before .before .before .before .before .before .before .before .word .result) < 4294967296 = omega (arith, g .fits) in
     search (needs, small)
 
@@ -119,11 +113,8 @@ loop-again c =
     let a = accepted sheetLayout (b .args .s .now) (p .0 .accepted) in
     let g = c .before .before .before .before .before .before .before .before .before .loop .inv in
     let h = c .before .before .before .before .before .before .before .before .loop-test .taken in
-    let few = programs-few (p .0) in
-    let count = values-count (p .0) _ (c .before .before .before .before .before .before .before .before .before .before .before .before .before .wide .ensures .0) in
-    let programs = values-count (p .0) _ refl in
-    let there = event-there _ (rw programs at few) (b .args .log .now) (c .before .before .before .before .before .before .before .before .before .loop .at) _ (c .before .before .before .before .before .before .before .record-at .ensures) _ count _ programs _ (c .before .before .before .before .before .before .words-at .ensures) in
-    follow-next (works a) _ (b .args .log .now) _ _ _ _ g h _ there (sym (c .before .before .before .before .refusal .ensures) ∙ c .before .before .before .if1 .taken) _ (c .before .before .taken .ensures) (c .enum-told .given .1) _ (record-size (p .0) _ (c .before .before .before .before .before .before .before .before .before .before .before .before .word .ensures .0))
+    let there = event-read (b .args .s .now) _ (header-there (p .0)) (programs-few (p .0)) (b .args .log .now) (c .before .before .before .before .before .before .before .before .before .loop .at) _ (c .before .before .before .before .before .before .before .record-at .ensures) _ (c .before .before .before .before .before .before .before .before .before .before .before .before .before .wide .ensures .0) _ (c .before .before .before .before .before .before .words-at .ensures) in
+    follow-next (works a) _ (b .args .log .now) _ _ _ _ g h _ there (sym (c .before .before .before .before .refusal .ensures) ∙ c .before .before .before .if1 .taken) _ (c .before .before .taken .ensures) (c .enum-told .given .1) _ (record-size (b .args .s .now) _ (header-there (p .0)) _ (c .before .before .before .before .before .before .before .before .before .before .before .before .word .ensures .0))
 
 returns-3 : tie.Need-returns-3 Inv-loop μ-loop
 returns-3 c =

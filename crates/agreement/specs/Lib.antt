@@ -1,0 +1,2 @@
+-- The network of a sheet against the sheet's own definition.
+pub mod Demand

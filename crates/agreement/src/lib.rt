@@ -1,0 +1,1 @@
+// Demand 3: the network of a sheet, against the sheet. Definitions and theorems only.

@@ -1,0 +1,2 @@
+-- What the functions for those who embed answer.
+mod Told

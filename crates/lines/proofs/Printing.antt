@@ -1,0 +1,76 @@
+-- The sheet of an input, the run of its network, and the lines that are printed. Assumes nothing.
+use mathlib.Core.Path.{_≡_, sym, ap, _∙_}
+use mathlib.Core.List.{List}
+use Prim.Native.Nat.{ℕ, _+_, _-_, _*_, _≤_, _<_}
+use native.Mathlib.Omega.{arith}
+use borrow.Author.Tests.{lt-ltb, le-ltb, le-leb, lt-leb}
+use lib.ListN.{length, take, drop, getD, length-drop}
+use lib.Seq.{sets, take-all}
+use Rattle.step.specs.declared.RunAnswer.{RunAnswer}
+use Rattle.step.specs.declared.RunAnswer.the-variants as run
+use Rattle.translation.specs.declared.Translated.{Translated}
+use Rattle.translation.specs.declared.Translated.the-variants.{Written, Refused}
+use Rattle.translation.specs.Answer.{networkBytes, translatedOf, bufferOf}
+use Rattle.translation.proofs.Cut.{sheet-accepted, written-length, written-bytes, network-longest, refused-reading}
+use Rattle.monitor.specs.Answers as OnSheet
+use Rattle.network.specs.Answers as OnNetwork
+use Rattle.lines.specs.Text.{tooLong, line}
+use Rattle.lines.specs.Lines.{sheetSize, networkRun, linesOf}
+use Rattle.lines.specs.Walk.{Puts}
+use Rattle.lines.proofs.Texts.{puts-then}
+
+-- how many bytes are the sheet: where there are fewer than two, where the first two say fewer than there are, and else
+module _ (i : List ℕ) where
+  pub size-all : length i < 2 → length i ≡ sheetSize i
+  unfolding sheetSize
+  size-all h = rw (lt-ltb (length i) 2 h)
+
+  module _ (h : 2 ≤ length i) (a b : ℕ) (e : a ≡ getD i 0 0) (f : b ≡ getD i 1 0) where
+    pub size-said : a * 256 + b < length i → a * 256 + b ≡ sheetSize i
+    unfolding sheetSize
+    size-said k = rw (le-ltb (length i) 2 h, ← e, ← f) (omega arith)
+
+    pub size-short : length i ≤ a * 256 + b → length i ≡ sheetSize i
+    unfolding sheetSize
+    size-short k = rw (le-ltb (length i) 2 h, ← e, ← f) (omega arith)
+
+-- what translating a sheet answered, and the run on what it left in the buffer
+module _ (s buffer : List ℕ) (t : Translated) (e : t ≡ translatedOf s buffer) where
+  module _ (n : ℕ) (h : t ≡ Written n) where
+    pub written-short : n ≤ 8192
+    written-short = omega (arith, written-length s buffer n (sym e ∙ h), network-longest s (sheet-accepted s buffer n (sym e ∙ h)))
+
+    module _ (last : List ℕ) (f : last ≡ bufferOf s buffer) where
+      cut : take n last ≡ networkBytes s
+      cut = ap (take n) f ∙ written-bytes s buffer n (sym e ∙ h)
+
+      pub written-cut : n ≡ length (take n last)
+      written-cut = sym (written-length s buffer n (sym e ∙ h)) ∙ ap length (sym cut)
+
+      pub written-run : (log : List ℕ) (r : RunAnswer) → r ≡ OnNetwork.runOf (take n last) log → r ≡ networkRun s log
+      written-run log r g = rw (sheet-accepted s buffer n (sym e ∙ h)) (g ∙ ap (λ l. OnNetwork.runOf l log) cut)
+
+  pub refused-run : 8192 ≤ length buffer → (n : ℕ) → t ≡ Refused n → (log : List ℕ) → run.Refused n ≡ networkRun s log
+  refused-run k n h log =
+      let (m, f, g) = refused-reading s buffer k n (sym e ∙ h) in
+      rw (f, g)
+
+-- What `lines` promises, from what was stored at the front: "too long", or a line behind another.
+abbrev Printed : List ℕ → List ℕ → List ℕ → ℕ → Type 0
+Printed o p i r = ((r ≡ length (linesOf i)) × (r ≤ 300)) × (p ≡ sets o 0 (linesOf i))
+
+printed : {o p l : List ℕ} {r n : ℕ} (i : List ℕ) → linesOf i ≡ l → Puts o p 0 l r n → n ≤ 300 → Printed o p i r
+printed i e w h = rw e ((omega (arith, w .writes .next), omega (arith, w .near)), w .writes .all)
+
+module _ {o p : List ℕ} (i : List ℕ) where
+  pub print-long : {r : ℕ} → 65536 < length i → Puts o p 0 tooLong r 20 → Printed o p i r
+  unfolding linesOf
+  print-long h w = printed i (rw (lt-leb (length i) 65536 h)) w (omega arith)
+
+  -- the log is all that is left behind the sheet
+  pub print-lines : {q : List ℕ} {m r : ℕ} (n : ℕ) (a b : RunAnswer) → length i ≤ 65536 → n ≡ sheetSize i → a ≡ OnSheet.runOf (take n i) (take (length i - n) (drop n i))
+      → b ≡ networkRun (take n i) (take (length i - n) (drop n i)) → Puts o p 0 (line a) m 150 → Puts p q m (line b) r 150 → Printed o q i r
+  unfolding linesOf
+  print-lines n a b h e f g v w =
+      let rest : take (length i - n) (drop n i) ≡ drop n i = take-all (length i - n) (drop n i) (omega (arith, length-drop n i)) in
+      printed i (rw (le-leb (length i) 65536 h, ← e, ← rest, ← f, ← g)) (puts-then (line a) (line b) v w) (omega arith)

@@ -1,0 +1,4 @@
+-- The two lines that the program prints.
+pub mod Text
+pub mod Lines
+pub mod Walk

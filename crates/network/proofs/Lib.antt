@@ -1,0 +1,20 @@
+-- The engine on a network: which states are sound, what they show, what an event makes of them, and what the functions' proofs cite.
+pub mod Living
+pub mod Views
+pub mod Ordering
+pub mod Created
+pub mod Soundness
+pub mod Templates
+pub mod Checks
+pub mod Lasting
+pub mod Counting
+pub mod Creating
+pub mod Starting
+pub mod Holding
+pub mod Taking
+pub mod Entries
+pub mod Moving
+pub mod Entering
+pub mod Leaving
+pub mod Answering
+pub mod Following

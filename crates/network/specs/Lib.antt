@@ -1,0 +1,6 @@
+-- The engine on a network of plain automata.
+pub mod Network
+pub mod Sound
+pub mod Padded
+pub mod Answers
+pub mod Walk

@@ -1,0 +1,99 @@
+-- One event and a run of them on a network (document 01, "Network layout and translation"), on states without padding.
+use mathlib.Core.Bool.{Bool, not, cond}
+use mathlib.Core.Option.{Option, none, some}
+use mathlib.Core.List.{List, [], _∷_, _++_, map}
+use Prim.Native.Nat.{ℕ, _+_}
+use lib.Dec.{eqb}
+use lib.ListN.{getD}
+use Rattle.condition.specs.Meaning.{environment}
+use Rattle.sheet.specs.declared.Transition.{Transition}
+use Rattle.sheet.specs.declared.Pair.{Pair}
+use Rattle.sheet.specs.declared.Template.{Template}
+use Rattle.sheet.specs.Parts.{Paired, Network}
+use Rattle.sheet.specs.Reading.{noTemplate}
+use Rattle.sheet.specs.Log.{Event}
+use Rattle.step.specs.declared.Verdict.{Verdict}
+use Rattle.step.specs.Lists.{first, keep, least}
+use Rattle.step.specs.Meets.{meets}
+use Rattle.step.specs.Moves.{Configuration, seen, enabled, moved}
+use Rattle.step.specs.Calls.{Call, isEntry, refusals, lowest}
+use Rattle.step.specs.Verdicts.{isJudged, verdict}
+use Rattle.step.specs.Runs.{Offered, offered, Ran, runFrom}
+use Rattle.network.specs.declared.Checker.{Checker}
+
+-- A checker has the number of its call, and its template; its values at entry are those that the call keeps.
+pub record State : Type 0 where
+  pub configuration : Configuration
+  pub calls : List Call
+  pub checkers : List Checker
+  pub position : ℕ
+  pub verdict : Option Verdict
+
+-- "start state, initial values, no calls, position 0, no verdict", and no checkers
+unfoldable pub fresh : Network → State
+fresh N = record { configuration = record { main = N .common .start; variables = N .common .initial }; calls = []; checkers = []; position = 0; verdict = none }
+
+-- its transitions without their pairs; a template by its number
+abbrev pub bases : Network → List Transition
+bases N = map (λ (t : Paired). t .base) (N .transitions)
+
+abbrev pub templateIn : Network → ℕ → Template
+templateIn N i = getD (N .templates) i noTemplate
+
+abbrev pub pairsIn : Option Paired → List Pair
+pairsIn none = []
+pairsIn (some t) = t .pairs
+
+-- "A taken entry transition creates, in pair order, for each pair whose condition holds, a checker bound to this call"
+unfoldable pub created : Network → Configuration → Event → List Checker
+created N k e =
+    let taken = first (λ (t : Paired). enabled (N .common) k e (t .base)) (N .transitions) in
+    map (λ (p : Pair). record { number = e .number; template = p .template }) (keep (λ (p : Pair). meets (N .common) (p .condition) (seen e k)) (pairsIn taken))
+
+abbrev pub boundTo : ℕ → Checker → Bool
+boundTo n h = eqb (h .number) n
+
+-- "it judges the postcondition at this call's exit", with the kept values as values at entry
+unfoldable pub fails : Network → Configuration → Event → Call → Checker → Bool
+fails N k e c h = not (meets (N .common) (templateIn N (h .template) .postcondition) (environment (e .values) (k .variables) (c .kept)))
+
+-- the lowest template whose checker fails at the exit of a call
+abbrev pub failing : Network → Configuration → Event → List Checker → Option Call → Option ℕ
+failing N k e l none = none
+failing N k e l (some c) = least (map (λ (h : Checker). h .template) (keep (fails N k e c) (keep (boundTo (c .number)) l)))
+
+abbrev pub ofNumber : ℕ → Call → Bool
+ofNumber n c = eqb (c .number) n
+
+unfoldable pub entered : Network → State → Event → State
+entered N σ e =
+    let to = moved (N .common) (bases N) (σ .configuration) e in
+    record {
+      configuration = to;
+      calls = σ .calls ++ record { number = e .number; unit = e .unit; kept = e .values } ∷ [];
+      checkers = σ .checkers ++ created N (σ .configuration) e;
+      position = σ .position + 1;
+      verdict = verdict (N .common) (σ .position + 1) (to .main) none;
+    }
+
+-- at this call's exit a checker "ends"
+unfoldable pub exited : Network → State → Event → State
+exited N σ e =
+    let to = moved (N .common) (bases N) (σ .configuration) e in
+    record {
+      configuration = to;
+      calls = keep (λ c. not (ofNumber (e .number) c)) (σ .calls);
+      checkers = keep (λ h. not (boundTo (e .number) h)) (σ .checkers);
+      position = σ .position + 1;
+      verdict = verdict (N .common) (σ .position + 1) (to .main) (failing N (σ .configuration) e (σ .checkers) (first (ofNumber (e .number)) (σ .calls)));
+    }
+
+-- "Order, refusals and verdict are as above": the lowest of refusals 10 to 15, or 0
+unfoldable pub refusal : Network → State → Event → ℕ
+refusal N σ e = lowest (refusals (N .common) (isJudged (σ .verdict)) (σ .position) (σ .calls) e)
+
+unfoldable pub offer : Network → State → Event → Offered State
+offer N σ e = offered (refusal N σ e) σ (cond (isEntry e) (entered N σ e) (exited N σ e))
+
+unfoldable pub run : Network → List Event → Ran State
+run N es = runFrom (offer N) (λ σ. σ .verdict) 1 (fresh N) es

@@ -1,0 +1,76 @@
+-- States as the operations hold them: arrays with zeros behind what is there.
+use mathlib.Core.Bool.{Bool, _&&_}
+use mathlib.Core.List.{List, map}
+use Prim.Native.Nat.{ℕ}
+use lib.Dec.{eqb, leb}
+use lib.ListN.{length, replicate, take, drop}
+use Rattle.sheet.specs.Table.{every, fit}
+use Rattle.sheet.specs.Parts.{Network}
+use Rattle.sheet.specs.Decode.{networkOf}
+use Rattle.sheet.specs.Reading.{reading, networkLayout}
+use Rattle.sheet.specs.Answer.{answer}
+use Rattle.step.specs.declared.Call.{Call}
+use Rattle.step.specs.declared.Outcome.the-variants.{Open}
+use Rattle.step.specs.Calls.{mostCalls}
+use Rattle.step.specs.Verdicts.{outcomeOf, verdictIn}
+use Rattle.step.specs.Walk.{unpad}
+use Rattle.step.specs.Padding.{zeroCall, padCall, padded, isZeroCall}
+use Rattle.step.specs.Answers.{unlessTaken}
+use Rattle.network.specs.declared.Checker.{Checker}
+use Rattle.network.specs.declared.NetworkState.{NetworkState}
+use Rattle.network.specs.declared.Fresh.{Fresh}
+use Rattle.network.specs.Network.{State, fresh}
+use Rattle.network.specs.Sound.{sound}
+
+abbrev pub zeroChecker : Checker
+zeroChecker = record { number = 0; template = 0 }
+
+-- "at most four a call", and at most 16 calls
+abbrev pub mostCheckers : ℕ
+mostCheckers = 64
+
+-- "an all-zero state"
+abbrev pub zeroState : NetworkState
+zeroState = record { main = 0; variables = replicate 4 0; opened = 0; calls = replicate 16 zeroCall; living = 0; checkers = replicate 64 zeroChecker; position = 0; outcome = Open }
+
+-- "calls fill the first places ..; unused places and variables are zero"
+unfoldable pub pad : State → NetworkState
+pad σ =
+    record {
+      main = σ .configuration .main;
+      variables = fit 4 0 (σ .configuration .variables);
+      opened = length (σ .calls);
+      calls = fit 16 zeroCall (map padCall (σ .calls));
+      living = length (σ .checkers);
+      checkers = fit 64 zeroChecker (σ .checkers);
+      position = σ .position;
+      outcome = outcomeOf (σ .verdict);
+    }
+
+-- What a state shows: the first V variables, the first `opened` calls with P kept values each, and the first `living` checkers.
+unfoldable pub view : Network → NetworkState → State
+view N w =
+    record {
+      configuration = record { main = w .main; variables = take (N .common .monitors) (w .variables) };
+      calls = map (unpad (N .common .programs)) (take (w .opened) (w .calls));
+      checkers = take (w .living) (w .checkers);
+      position = w .position;
+      verdict = verdictIn (w .outcome);
+    }
+
+abbrev pub isZeroChecker : Checker → Bool
+isZeroChecker h = eqb (h .number) 0 && eqb (h .template) 0
+
+-- "unused places and variables are zero"; the lengths are those of the code's types, which a list does not know
+unfoldable pub tidy : Network → NetworkState → Bool
+tidy N w =
+    padded 4 (N .common .monitors) (w .variables) && (eqb (length (w .calls)) 16 && (eqb (length (w .checkers)) 64
+    && (every (λ (c : Call). padded 8 (N .common .programs) (c .kept)) (w .calls) && (every isZeroCall (drop (w .opened) (w .calls)) && every isZeroChecker (drop (w .living) (w .checkers))))))
+
+-- what it shows is sound, and the rest is zero
+unfoldable pub soundState : Network → NetworkState → Bool
+soundState N w = leb (w .opened) mostCalls && (leb (w .living) mostCheckers && (tidy N w && sound N (view N w)))
+
+-- "Making a fresh state: the reading refusals, with an all-zero state."
+unfoldable pub freshOf : List ℕ → Fresh
+freshOf n = record { reading = answer (reading networkLayout n); state = unlessTaken (reading networkLayout n) zeroState (pad (fresh (networkOf n))) }

@@ -1,0 +1,141 @@
+// The engine on a network: its state, one event, a log.
+
+ghost use mathlib.Core.Path.{_≡_};
+ghost use Rattle.sheet.specs.Decode.{networkOf};
+ghost use Rattle.step.specs.Walk.{eventOf};
+ghost use Rattle.network.specs.Answers.{offerOf, runOf, entryValues};
+ghost use Rattle.network.specs.Network.{fresh};
+ghost use Rattle.network.specs.Padded.{zeroState, pad, freshOf};
+use sheet::Reading;
+use sheet::Record;
+use step::Answer;
+use step::Call;
+use step::Outcome;
+use step::RunAnswer;
+
+mod event;
+mod follow;
+mod sound;
+
+// A living checker: the number of the open call that it is bound to, and its template.
+pub struct Checker {
+    pub number: u16,
+    pub template: u8,
+}
+
+// A state of the network. The first `opened` calls are open, the first `living` checkers live.
+pub struct NetworkState {
+    pub main: u8,
+    pub variables: [u32; NetworkState::VARIABLES],
+    pub opened: u8,
+    pub calls: [Call; NetworkState::CALLS],
+    pub living: u8,
+    pub checkers: [Checker; NetworkState::CHECKERS],
+    pub position: u32,
+    pub outcome: Outcome,
+}
+
+// What making a fresh state answers: what reading the network answers, and the state.
+pub struct Fresh {
+    pub reading: Reading,
+    pub state: NetworkState,
+}
+
+// What offering an event answers, and the state that comes back.
+pub struct Offered {
+    pub answer: Answer,
+    pub state: NetworkState,
+}
+
+impl NetworkState {
+    pub const CALLS: usize = 16;
+
+    pub const CHECKERS: usize = 64;
+
+    pub const VARIABLES: usize = 4;
+
+    pub const VALUES: usize = 8;
+
+    // The state all of whose fields are zero, with no verdict.
+    pub fn zero() -> NetworkState
+        ensures { λ r. ⌜ r ≡ zeroState ⌝ }
+    {
+        NetworkState {
+            main: 0,
+            variables: [0; NetworkState::VARIABLES],
+            opened: 0,
+            calls: [Call {
+                number: 0,
+                unit: 0,
+                kept: [0; NetworkState::VALUES],
+            }; NetworkState::CALLS],
+            living: 0,
+            checkers: [Checker {
+                number: 0,
+                template: 0,
+            }; NetworkState::CHECKERS],
+            position: 0,
+            outcome: Outcome::Open,
+        }
+    }
+
+    // The state before the first event: the start state, the initial values, no calls, no checkers.
+    pub fn fresh(s: &[u8]) -> Fresh
+        ensures { λ r. ⌜ r ≡ freshOf (now (s .entry)) ⌝ }
+    {
+        match sheet::read_network(s) {
+            Reading::Accepted => Fresh {
+                reading: Reading::Accepted,
+                state: NetworkState::started(s),
+            },
+            Reading::Refused(n) => Fresh {
+                reading: Reading::Refused(n),
+                state: NetworkState::zero(),
+            },
+        }
+    }
+
+    // The state that the header and the initial values give.
+    fn started(s: &[u8]) -> NetworkState
+        ensures { λ r. ⌜ r ≡ pad (fresh (networkOf (now (s .entry)))) ⌝ }
+    {
+        let h = sheet::header_of(s);
+        let w = sheet::words_at(s, 14, h.monitors);
+        let mut state = NetworkState::zero();
+        state.main = h.start;
+        state.variables = [w[0], w[1], w[2], w[3]];
+        state
+    }
+}
+
+// Offers one event to a state on a network: the reading refusals, 9 to 15, or taken. A refused event
+// leaves the state as it was.
+pub fn offer(s: &[u8], state: NetworkState, event: Record, values: &[u32]) -> Offered
+    ensures { λ r. ⌜ r ≡ offerOf (now (s .entry)) state (eventOf event (now (values .entry))) ⌝ }
+{
+    match sheet::read_network(s) {
+        Reading::Accepted => follow::offer_accepted(s, state, event, values),
+        Reading::Refused(n) => Offered {
+            answer: Answer::Refused(n),
+            state,
+        },
+    }
+}
+
+// Runs a log from the fresh state of a network.
+pub fn run(s: &[u8], log: &[u8]) -> RunAnswer
+    ensures { λ r. ⌜ r ≡ runOf (now (s .entry)) (now (log .entry)) ⌝ }
+{
+    match sheet::read_network(s) {
+        Reading::Accepted => follow::run_accepted(s, log),
+        Reading::Refused(n) => RunAnswer::Refused(n),
+    }
+}
+
+// The values at entry of the living checker at a place of the row: those that its call keeps. Zeros
+// where there is no such checker, or where its call is not open.
+pub fn entry_values(state: NetworkState, i: usize) -> [u32; 8]
+    ensures { λ r. ⌜ r ≡ entryValues state i ⌝ }
+{
+    event::entry_values(state, i)
+}

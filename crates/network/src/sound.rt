@@ -1,0 +1,180 @@
+// Whether a state is sound on an accepted network.
+
+ghost use mathlib.Core.Path.{_≡_};
+ghost use mathlib.Core.Bool.{_&&_};
+ghost use mathlib.Core.List.{map};
+ghost use lib.Dec.{eqb, leb, ltb};
+ghost use lib.ListN.{length, take, drop};
+ghost use Rattle.sheet.specs.Table.{every};
+ghost use Rattle.sheet.specs.Decode.{networkOf};
+ghost use Rattle.sheet.specs.Reading.{reading, networkLayout};
+ghost use Rattle.step.specs.Lists.{keep};
+ghost use Rattle.step.specs.Walk.{placeOf};
+ghost use Rattle.network.specs.Sound.{neverFalls};
+ghost use Rattle.network.specs.Padded.{isZeroChecker, soundState};
+ghost use Rattle.network.specs.Walk.{tablesOf, onCallAt};
+use crate::Checker;
+use crate::NetworkState;
+use crate::event::Tables;
+use crate::event::long;
+use crate::event::wide;
+use crate::event::word;
+use step::Call;
+
+pub(crate) fn sound(s: &[u8], t: Tables, state: NetworkState) -> bool
+    requires { ⌜ (reading networkLayout (now s) ≡ 0) × (t ≡ tablesOf (now s)) ⌝ }
+    ensures { λ r. ⌜ r ≡ soundState (networkOf (now (s .entry))) state ⌝ }
+{
+    let h = t.header;
+    let opened = opened_in(state);
+    let living = wide(state.living);
+    let variables = state.variables;
+    let outcome = state.outcome;
+    let calls = state.calls;
+    let checkers = state.checkers;
+    let tidy = step::rows::clear_from(&variables, wide(h.monitors))
+        & (step::rows::kept_clear(calls, wide(h.programs))
+            & (step::rows::calls_clear(calls, opened) & checkers_clear(checkers, living)));
+    let row = step::rows::numbers_distinct(calls, opened) & units_below(calls, opened, h.units);
+    let bound = on_calls(s, t.templates, h.last, calls, opened, checkers, living)
+        & (four_a_call(calls, opened, checkers, living)
+            & in_order(calls, opened, checkers, living));
+    let rest = step::outcomes::outcome_fits(h.bad, h.last, state.main, state.position, outcome);
+    ((opened <= 16) & (living <= 64)) & (tidy & ((state.main < h.states) & (row & (bound & rest))))
+}
+
+// How many calls are open, in rows of so many places.
+fn opened_in(state: NetworkState) -> usize
+    ensures { λ r. ⌜ (r ≡ state .opened) × (length (state .variables) ≡ 4) × (length (state .calls) ≡ 16) × (length (state .checkers) ≡ 64) ⌝ }
+{
+    wide(state.opened)
+}
+
+// Whether there is no checker from a place on.
+fn checkers_clear(checkers: [Checker; 64], from: usize) -> bool
+    ensures { λ r. ⌜ r ≡ every isZeroChecker (drop from checkers) ⌝ }
+{
+    let mut i = from;
+    while i < 64 {
+        let c = checkers[i];
+        if (c.number == 0) & (c.template == 0) {} else {
+            return false;
+        }
+        i += 1;
+    }
+    true
+}
+
+// Whether the first `opened` calls are of units below U.
+fn units_below(calls: [Call; 16], opened: usize, units: u8) -> bool
+    ensures { λ r. ⌜ r ≡ every (λ c. ltb (c .unit) units) (take opened calls) ⌝ }
+{
+    let mut i = 0;
+    while i < opened {
+        if i < 16 {
+            let c = calls[i];
+            if c.unit < units {} else {
+                return false;
+            }
+        } else {
+            return true;
+        }
+        i += 1;
+    }
+    true
+}
+
+// Whether each of the first `living` checkers is on an open call of its template's unit.
+fn on_calls(
+    s: &[u8],
+    at: u16,
+    n: u8,
+    calls: [Call; 16],
+    opened: usize,
+    checkers: [Checker; 64],
+    living: usize,
+) -> bool
+    ensures { λ r. ⌜ r ≡ every (onCallAt (now (s .entry)) at n (take opened calls)) (take living checkers) ⌝ }
+{
+    let mut i = 0;
+    while i < living {
+        if i < 64 {
+            if on_call(s, at, n, calls, opened, checkers[i]) {} else {
+                return false;
+            }
+        } else {
+            return true;
+        }
+        i += 1;
+    }
+    true
+}
+
+fn on_call(s: &[u8], at: u16, n: u8, calls: [Call; 16], opened: usize, c: Checker) -> bool
+    ensures { λ r. ⌜ r ≡ onCallAt (now (s .entry)) at n (take opened calls) c ⌝ }
+{
+    let t = sheet::template_at(s, long(at) + 2 * word(c.template));
+    let open = step::call_open_for(calls, opened, c.number, t.unit);
+    (c.template < n) & open
+}
+
+// Whether at most four of the first `living` checkers are bound to each open call.
+fn four_a_call(calls: [Call; 16], opened: usize, checkers: [Checker; 64], living: usize) -> bool
+    ensures { λ r. ⌜ r ≡ every (λ c. leb (length (keep (λ h. eqb (h .number) (c .number)) (take living checkers))) 4) (take opened calls) ⌝ }
+{
+    let mut i = 0;
+    while i < opened {
+        if i < 16 {
+            let c = calls[i];
+            if bound_to(checkers, living, c.number) <= 4 {} else {
+                return false;
+            }
+        } else {
+            return true;
+        }
+        i += 1;
+    }
+    true
+}
+
+// How many of the first `living` checkers are bound to a call.
+fn bound_to(checkers: [Checker; 64], living: usize, number: u16) -> usize
+    ensures { λ r. ⌜ r ≡ length (keep (λ h. eqb (h .number) number) (take living checkers)) ⌝ }
+{
+    let mut i = 0;
+    let mut count = 0;
+    while i < living {
+        if i < 64 {
+            let c = checkers[i];
+            if c.number == number {
+                count += 1;
+            }
+        } else {
+            return count;
+        }
+        i += 1;
+    }
+    count
+}
+
+// Whether the calls of the first `living` checkers never stand before those of earlier checkers.
+fn in_order(calls: [Call; 16], opened: usize, checkers: [Checker; 64], living: usize) -> bool
+    ensures { λ r. ⌜ r ≡ neverFalls 0 (map (λ h. placeOf (λ c. eqb (c .number) (h .number)) (take opened calls)) (take living checkers)) ⌝ }
+{
+    let mut i = 0;
+    let mut last = 0;
+    while i < living {
+        if i < 64 {
+            let c = checkers[i];
+            let place = step::call_place(calls, opened, c.number);
+            if last <= place {} else {
+                return false;
+            }
+            last = place;
+        } else {
+            return true;
+        }
+        i += 1;
+    }
+    true
+}

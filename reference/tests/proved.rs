@@ -1,0 +1,290 @@
+//! The proved library, by way of its static library, beside the reference on generated inputs; and
+//! the example in C. Only under the feature `embed`.
+
+use reference::generate::{network_case, run_case, RunCase};
+use reference::program::{output, MOST_INPUT};
+use reference::proved::{self, numbered, Answer};
+use reference::random::Random;
+use reference::run::{run_network, run_sheet, Outcome};
+use reference::sheet::{Sheet, LONGEST_SHEET};
+use reference::sheet_cases::{LOG_A, SHEET_A};
+use reference::tally::SEED;
+use reference::translate::{translate, BUFFER};
+use reference::workloads;
+use std::fs;
+use std::path::{Path, PathBuf};
+use std::process::{Command, Output};
+
+const INPUTS: usize = 20_000;
+/// What stands in bytes that are not to be written.
+const FILL: u8 = 0xA5;
+
+/// Every code must occur often, or the inputs say little.
+#[derive(Default)]
+struct Codes([usize; 4]);
+
+impl Codes {
+    fn count(&mut self, answer: Answer) {
+        self.0[answer.code as usize] += 1;
+    }
+
+    fn assert_many(&self) {
+        assert!(self.0.iter().all(|count| *count >= 500), "{:?}", self.0);
+    }
+}
+
+// ---- Runs -------------------------------------------------------------------------------------
+
+#[test]
+fn runs_on_sheets() {
+    let mut random = Random::new(SEED);
+    let mut codes = Codes::default();
+    for number in 0..INPUTS {
+        let RunCase { sheet, log } = run_case(&mut random);
+        let answer = proved::run(&sheet, &log);
+        assert_eq!(answer, numbered(run_sheet(&sheet, &log)), "input {number}");
+        codes.count(answer);
+    }
+    codes.assert_many();
+}
+
+/// Half of the networks are translated from a sheet, half are the generator's own.
+#[test]
+fn runs_on_networks() {
+    let mut random = Random::new(SEED + 1);
+    let mut codes = Codes::default();
+    for number in 0..INPUTS {
+        let (network, log) = any_network(&mut random, number);
+        let answer = proved::run_network(&network, &log);
+        let expected = numbered(run_network(&network, &log));
+        assert_eq!(answer, expected, "input {number}");
+        codes.count(answer);
+    }
+    codes.assert_many();
+}
+
+fn any_network(random: &mut Random, number: usize) -> (Vec<u8>, Vec<u8>) {
+    let RunCase { sheet, log } = run_case(random);
+    let mut network = vec![0; BUFFER];
+    match translate(&sheet, &mut network) {
+        Ok(length) if number.is_multiple_of(2) => {
+            network.truncate(length);
+            (network, log)
+        }
+        _ => {
+            let own = network_case(random, &log);
+            (own.network, own.log)
+        }
+    }
+}
+
+// ---- Translating ------------------------------------------------------------------------------
+
+#[test]
+fn translations() {
+    let mut random = Random::new(SEED + 2);
+    let mut answers = [0; 20];
+    for number in 0..INPUTS {
+        let sheet = run_case(&mut random).sheet;
+        let mut expected = vec![FILL; BUFFER];
+        let whole = translate(&sheet, &mut expected).unwrap_or(0);
+        let room = match random.below(4) {
+            0 => random.below(whole),
+            1 => whole.saturating_sub(1),
+            2 => whole,
+            _ => BUFFER,
+        };
+        answers[compare_translation(&sheet, room, number)] += 1;
+    }
+    // 0 is done; 9 to 18 are no refusals of a sheet.
+    let met = |answer: &usize| answers[*answer] >= 50;
+    assert!((0..9).chain([19]).all(|n| met(&n)), "{answers:?}");
+}
+
+/// Compares the answer, every byte of the buffer and the size; gives the answer.
+fn compare_translation(sheet: &[u8], room: usize, number: usize) -> usize {
+    let unchanged = 0xA5A5_A5A5;
+    let (mut out, mut size) = (vec![FILL; room], unchanged);
+    let answer = proved::translate(sheet, &mut out, &mut size);
+    let mut expected = vec![FILL; room];
+    let (code, length) = match translate(sheet, &mut expected) {
+        Ok(length) => (0, length),
+        Err(refusal) => (refusal.number().into(), unchanged),
+    };
+    assert_eq!((answer, size), (code, length), "input {number}");
+    assert_eq!(out, expected, "input {number}");
+    answer as usize
+}
+
+// ---- Lines ------------------------------------------------------------------------------------
+
+#[test]
+fn lines_of_inputs() {
+    let mut random = Random::new(SEED + 3);
+    for number in 0..INPUTS {
+        let mut input = run_case(&mut random).input();
+        if random.chance(1, 10) {
+            input.truncate(random.below(input.len()));
+        }
+        let room = random.pick(&[0, 1, 12, 30, 300, 300, 300, 400]);
+        compare_lines(&input, room, number);
+    }
+}
+
+#[test]
+fn lines_of_long_inputs() {
+    for length in MOST_INPUT - 2..MOST_INPUT + 3 {
+        for first in [0, 0xFF] {
+            compare_lines(&vec![first; length], 300, length);
+        }
+    }
+}
+
+/// Compares how many bytes there are, and every byte of a buffer with so much room.
+fn compare_lines(input: &[u8], room: usize, number: usize) {
+    let text = output(input).into_bytes();
+    let mut expected = vec![FILL; room];
+    for (place, byte) in expected.iter_mut().zip(&text) {
+        *place = *byte;
+    }
+    let mut out = vec![FILL; room];
+    let size = proved::lines(input, &mut out);
+    assert_eq!(size, text.len(), "input {number}");
+    assert_eq!(out, expected, "input {number}");
+}
+
+// ---- The benchmark's inputs -------------------------------------------------------------------
+
+#[test]
+fn the_benchmark_s_logs_are_clean() {
+    let tables = [
+        workloads::log_lengths(),
+        workloads::sheet_sizes(),
+        workloads::open_calls(),
+        workloads::mondex_runs(),
+    ];
+    for workload in tables.iter().flatten() {
+        let answer = proved::run(&workload.sheet, &workload.log);
+        let expected = numbered(run_sheet(&workload.sheet, &workload.log));
+        assert_eq!(answer, expected, "{}", workload.name);
+        let [events, ..] = answer.numbers;
+        assert_eq!(answer.code, 0, "{}", workload.name);
+        assert_eq!(events as usize, workload.events, "{}", workload.name);
+    }
+    let longest = tables[1].iter().map(|w| w.sheet.len()).max();
+    assert_eq!(longest, Some(LONGEST_SHEET));
+    let mondex = Sheet::read(&tables[3][0].sheet).unwrap();
+    let counts = (mondex.transitions.len(), mondex.triples.len());
+    assert_eq!((mondex.machine.header.states, counts), (10, (25, 26)));
+}
+
+#[test]
+fn the_benchmark_refuses_wrong_arguments() {
+    for arguments in [&["x"][..], &["--write"], &["--write", "/nowhere/at/all"]] {
+        let mut bench = Command::new(env!("CARGO_BIN_EXE_bench"));
+        let said = bench.args(arguments).output().expect("it starts");
+        let message = String::from_utf8_lossy(&said.stderr);
+        assert!(!said.status.success() && said.stdout.is_empty());
+        assert_eq!(message.lines().count(), 1, "{message}");
+    }
+}
+
+// ---- The example in C -------------------------------------------------------------------------
+
+const TOP: &str = concat!(env!("CARGO_MANIFEST_DIR"), "/..");
+
+/// The example, built with `cc`; none where there is no `cc`.
+fn example(directory: &Path) -> Option<PathBuf> {
+    if Command::new("cc").arg("--version").output().is_err() {
+        println!("there is no cc: the example was not built");
+        return None;
+    }
+    let program = directory.join("example");
+    let top = Path::new(TOP);
+    let built = Command::new("cc")
+        .args(["-std=c99", "-O2", "-Wall", "-Wextra", "-Wpedantic"])
+        .args(["-Werror", "-o"])
+        .arg(&program)
+        .arg(top.join("embed/example.c"))
+        .arg(top.join("target/staticlib/libembed.a"))
+        .output()
+        .expect("cc starts");
+    let said = String::from_utf8_lossy(&built.stderr);
+    assert!(built.status.success() && said.is_empty(), "{said}");
+    Some(program)
+}
+
+fn run_example(program: &Path, arguments: &[&Path]) -> Output {
+    let mut command = Command::new(program);
+    command.args(arguments).output().expect("the example runs")
+}
+
+/// The two lines for a sheet and a log that stand apart.
+fn two_lines(sheet: &[u8], log: &[u8]) -> String {
+    let mut buffer = vec![0; BUFFER];
+    let on_network = match translate(sheet, &mut buffer) {
+        Ok(length) => run_network(&buffer[..length], log),
+        Err(refusal) => Outcome::Refused(refusal),
+    };
+    format!("{}\n{on_network}\n", run_sheet(sheet, log))
+}
+
+/// A directory of this test's own.
+fn directory(name: &str) -> PathBuf {
+    let path = Path::new(env!("CARGO_TARGET_TMPDIR")).join(name);
+    fs::create_dir_all(&path).expect("a directory for the test");
+    path
+}
+
+#[test]
+fn the_example_prints_the_program_s_lines() {
+    let place = directory("example-lines");
+    let Some(program) = example(&place) else {
+        return;
+    };
+    let (sheet, log) = (place.join("sheet"), place.join("log"));
+    let compare = |case: &RunCase| {
+        fs::write(&sheet, &case.sheet).unwrap();
+        fs::write(&log, &case.log).unwrap();
+        let said = run_example(&program, &[&sheet, &log]);
+        let expected = two_lines(&case.sheet, &case.log);
+        assert_eq!(String::from_utf8_lossy(&said.stdout), expected);
+        assert!(said.status.success() && said.stderr.is_empty());
+        expected
+    };
+    let a = RunCase {
+        sheet: SHEET_A.to_vec(),
+        log: LOG_A.to_vec(),
+    };
+    let line = "violated 2 state - triple 0\n";
+    assert_eq!(compare(&a), line.repeat(2));
+    let mut random = Random::new(SEED + 4);
+    for _ in 0..200 {
+        compare(&run_case(&mut random));
+    }
+}
+
+#[test]
+fn the_example_says_what_is_wrong() {
+    let place = directory("example-wrong");
+    let Some(program) = example(&place) else {
+        return;
+    };
+    let (sheet, missing) = (place.join("sheet"), place.join("missing"));
+    fs::write(&sheet, SHEET_A).unwrap();
+    let wrong: [(&[&Path], i32, &str); 5] = [
+        (&[], 2, "usage: "),
+        (&[&sheet], 2, "usage: "),
+        (&[&sheet, &sheet, &sheet], 2, "usage: "),
+        (&[&sheet, &missing], 1, "cannot read"),
+        (&[&place, &sheet], 1, "cannot read"),
+    ];
+    for (arguments, status, text) in wrong {
+        let said = run_example(&program, arguments);
+        let message = String::from_utf8_lossy(&said.stderr);
+        assert_eq!(said.status.code(), Some(status), "{message}");
+        assert!(said.stdout.is_empty());
+        assert!(message.contains(text), "{message}");
+        assert_eq!(message.lines().count(), 1, "{message}");
+    }
+}
