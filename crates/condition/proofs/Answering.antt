@@ -123,6 +123,22 @@ module _ (L : Lent) (s : List ℕ) where
   unfolding actionWhich
   run-has-entry = narrowed (sized 0 s) (parseAction L s) (parseAction (unkept L) s) (λ a. actionNames a isAtEntry) (λ a e. action-entry-narrow L s e)
 
+-- The same where the second is asked first: no where it holds, and else as the first.
+module _ (a b c : Bool) (h : (a && not b) ≡ c) where
+  pub none-named : b ≡ true → false ≡ c
+  none-named e = go a (rw e at h)
+    where
+      go : (x : Bool) → (x && false) ≡ c → false ≡ c
+      go true k = k
+      go false k = k
+
+  pub some-named : b ≡ false → a ≡ c
+  some-named e = go a (rw e at h)
+    where
+      go : (x : Bool) → (x && true) ≡ c → x ≡ c
+      go true k = k
+      go false k = k
+
 -- an action may be empty
 action-sized : (s : List ℕ) → length s ≤ longest → sized 0 s ≡ true
 action-sized s h = rw (le-leb 0 (length s) (omega arith), le-leb (length s) 64 h)

@@ -64,12 +64,13 @@ module _ (S : _) (σ : Monitor.State) (event : Record) (values : List ℕ) (z : 
   pub kind-exit : (event .kind ≡ 0 → ⊥) → event .kind ≡ 1
   kind-exit h = omega (arith, free S σ (eventOf event values) z .kind)
 
-  module _ (r : WatchState) where
-    pub taken-entry : event .kind ≡ 0 → r ≡ pad (Monitor.entered S σ (eventOf event values)) → r ≡ pad (Monitor.offer S σ (eventOf event values) .state)
-    taken-entry h e = e ∙ sym (ap pad (offer-taken S σ (eventOf event values) z ∙ rw (eq-eqb (event .kind) 0 h)))
+  -- and what a taken one leaves, in some form
+  module _ {A : Type 0} (form : Monitor.State → A) (r : A) where
+    pub taken-entry : event .kind ≡ 0 → r ≡ form (Monitor.entered S σ (eventOf event values)) → r ≡ form (Monitor.offer S σ (eventOf event values) .state)
+    taken-entry h e = e ∙ sym (ap form (offer-taken S σ (eventOf event values) z ∙ rw (eq-eqb (event .kind) 0 h)))
 
-    pub taken-exit : (event .kind ≡ 0 → ⊥) → r ≡ pad (Monitor.exited S σ (eventOf event values)) → r ≡ pad (Monitor.offer S σ (eventOf event values) .state)
-    taken-exit h e = e ∙ sym (ap pad (offer-taken S σ (eventOf event values) z ∙ rw (ne-eqb (event .kind) 0 h)))
+    pub taken-exit : (event .kind ≡ 0 → ⊥) → r ≡ form (Monitor.exited S σ (eventOf event values)) → r ≡ form (Monitor.offer S σ (eventOf event values) .state)
+    taken-exit h e = e ∙ sym (ap form (offer-taken S σ (eventOf event values) z ∙ rw (ne-eqb (event .kind) 0 h)))
 
 -- What offering an event answers.
 abbrev offeredWith : Answer → WatchState → Offered

@@ -1,17 +1,18 @@
 -- The triples that an entry arms, as the loop finds them, and whether one fails at an exit. Assumes nothing.
-use mathlib.Core.Path.{_≡_, ap, _∙_}
-use mathlib.Core.Bool.{Bool, true, false, not, _&&_}
+use mathlib.Core.Path.{_≡_, sym, ap, _∙_}
+use mathlib.Core.Bool.{Bool, true, false, not}
 use mathlib.Core.List.{List, _∷_}
 use Prim.Native.Nat.{ℕ, suc, _+_, _-_, _*_, _≤_, _<_}
-use native.Mathlib.Nat.{sub-zero}
 use native.Mathlib.Numerals.{add-one}
 use native.Mathlib.Omega.{arith}
-use lib.Dec.{eqb}
+use borrow.Author.Tests.{eq-eqb, ne-eqb}
 use lib.ListN.{length, set, drop, replicate}
 use Rattle.condition.specs.Meaning.{Environment}
 use Rattle.sheet.specs.declared.Triple.{Triple}
+use Rattle.sheet.specs.Bytes.{byte}
 use Rattle.sheet.specs.Table.{Form, records, table, fit}
 use Rattle.sheet.specs.Decode.{tripleForm}
+use Rattle.sheet.proofs.Loops.{byte-here}
 use Rattle.sheet.proofs.Tables.{table-step}
 use Rattle.step.specs.Lists.{numbers}
 use Rattle.step.specs.Walk.{meetsAt}
@@ -20,12 +21,31 @@ use Rattle.monitor.specs.declared.Arms.{Arms}
 use Rattle.monitor.specs.Padded.{padArms}
 use Rattle.monitor.specs.Walk.{armsAt, failsAt}
 
-module _ (s index : List ℕ) (state unit : ℕ) (E : Environment) (t u : Triple) (e : t ≡ u) where
-  pub arms-there : (eqb (t .state) state && eqb (t .unit) unit) ≡ true → (b : Bool) → b ≡ meetsAt s index (t .precondition) E → b ≡ armsAt s index state unit E u
-  arms-there h b x = rw (← e, h) x
+-- A triple is armed where its state and unit fit and its precondition holds.
+module _ (s index : List ℕ) (state unit : ℕ) (E : Environment) (t u : Triple) (e : t ≡ u) (f : t .state ≡ state) where
+  suited : t .unit ≡ unit → (b : Bool) → b ≡ meetsAt s index (t .precondition) E → b ≡ armsAt s index state unit E u
+  suited h b x = rw (← e, eq-eqb (t .state) state f, eq-eqb (t .unit) unit h) x
 
-  pub arms-not : (eqb (t .state) state && eqb (t .unit) unit) ≡ false → false ≡ armsAt s index state unit E u
-  arms-not h = rw (← e, h)
+  unsuited : (t .unit ≡ unit → ⊥) → false ≡ armsAt s index state unit E u
+  unsuited h = rw (← e, eq-eqb (t .state) state f, ne-eqb (t .unit) unit h)
+
+-- The same for the one at a place, whose first byte is its state.
+module _ (s index : List ℕ) (state unit : ℕ) (E : Environment) (at x : ℕ) (f : x ≡ byte s at) where
+  first : tripleForm .value (drop at s) .state ≡ x
+  first = sym (f ∙ byte-here s at)
+
+  pub arms-elsewhere : (x ≡ state → ⊥) → false ≡ armsAt s index state unit E (tripleForm .value (drop at s))
+  arms-elsewhere h = rw (first, ne-eqb x state h)
+
+  module _ (h : x ≡ state) (t : Triple) (e : t ≡ tripleForm .value (drop at s)) where
+    of-state : t .state ≡ state
+    of-state = ap (λ (u : Triple). u .state) e ∙ first ∙ h
+
+    pub arms-there : t .unit ≡ unit → (b : Bool) → b ≡ meetsAt s index (t .precondition) E → b ≡ armsAt s index state unit E (tripleForm .value (drop at s))
+    arms-there g b y = suited s index state unit E t (tripleForm .value (drop at s)) e of-state g b y
+
+    pub arms-not : (t .unit ≡ unit → ⊥) → false ≡ armsAt s index state unit E (tripleForm .value (drop at s))
+    arms-not g = unsuited s index state unit E t (tripleForm .value (drop at s)) e of-state g
 
 pub fails-there : (s index : List ℕ) (at n : ℕ) (E : Environment) (a b : ℕ) → a ≡ at → b ≡ n → (t : Triple) → t ≡ tripleForm .value (drop (a + 4 * b) s) → (m : Bool) → m ≡ meetsAt s index (t .postcondition) E
     → not m ≡ failsAt s index at E n
@@ -46,8 +66,9 @@ module _ {A : Type 0} (p : A → Bool) (F : Form A) (n : ℕ) (s : List ℕ) (at
   abbrev whole : List ℕ
   whole = numbers p 0 (table F n s at)
 
-  pub choosing-start : Choosing p F n s at (replicate 4 0) 0 0 at
-  choosing-start = record { fill = rw (sub-zero n) (filling-start 4 0 whole); many = rw (sub-zero n) (omega arith); few = omega arith; low = omega arith; there = omega arith }
+  -- from the first record that may pass on
+  pub choosing-start : (i place : ℕ) → place ≡ at + 4 * i → i ≤ n → numbers p i (table F (n - i) s place) ≡ numbers p 0 (table F n s at) → Choosing p F n s at (replicate 4 0) 0 i place
+  choosing-start i place e h g = record { fill = rw g (filling-start 4 0 whole); many = rw g (omega arith); few = omega arith; low = omega arith; there = e }
 
   module _ (sized : (t : List ℕ) → F .size t ≡ 4) (out : List ℕ) (count i place : ℕ) (g : Choosing p F n s at out count i place) (h : i < n) where
     left : n - i ≡ suc (n - (i + 1))

@@ -57,7 +57,7 @@ beside-map {C} p f g (x ∷ l) = go (p (f x)) (beside-map p f g l)
     go false h = h
 
 -- The calls of a state and what is armed for them, as the arrays hold them.
-abbrev noArmed : Armed
+abbrev pub noArmed : Armed
 noArmed = record { call = record { number = 0; unit = 0; kept = [] }; armed = [] }
 
 abbrev callsIn : List Armed → List Call
@@ -118,16 +118,20 @@ module _ {s : List ℕ} (a : Accepted sheetLayout s) (k : Configuration) (e : Ev
       (ap (λ (t : Triple). meetsAt s (conditionPlaces s) (t .postcondition) E) (triple-there a i)
       ∙ after-meets a (omega arith) (tripleIn (sheetOf s) i .postcondition) (g .postcondition) (g .noMonitorAfter) (e .values) (k .variables) p (c .call .kept) kept-many)
 
+  pub judged-armed : numberIn (leastOf 256 (keep (failsAt s (conditionPlaces s) (lastAt transitionForm s) (environment (e .values) [] (c .call .kept))) (c .armed))) ≡ least (keep (fails (sheetOf s) k e (c .call)) (c .armed))
+  judged-armed =
+      let kept-are = kept-passes (fails (sheetOf s) k e (c .call)) (c .armed) in
+      ap (λ (l : List ℕ). numberIn (leastOf 256 l)) (keep-same _ (fails (sheetOf s) k e (c .call)) (c .armed) fails-same)
+      ∙ number-least (keep (fails (sheetOf s) k e (c .call)) (c .armed)) (λ i m. omega (arith, armed-exists i (kept-are i m .0), bounds a .last))
+
   judged-same : (call : Call) (arms : Arms) → call ≡ padCall (c .call) → arms ≡ padArms (c .armed)
       → numberIn (leastOf 256 (keep (failsAt s (conditionPlaces s) (lastAt transitionForm s) (environment (e .values) [] (take (commonOf s .programs) (call .kept)))) (take (arms .count) (arms .triples))))
       ≡ least (keep (fails (sheetOf s) k e (c .call)) (c .armed))
   judged-same call arms x y =
-      let low : List ℕ → List ℕ → List ℕ = λ kept armed. keep (failsAt s (conditionPlaces s) (lastAt transitionForm s) (environment (e .values) [] kept)) armed in
+      let low : List ℕ → List ℕ → Option ℕ = λ kept armed. numberIn (leastOf 256 (keep (failsAt s (conditionPlaces s) (lastAt transitionForm s) (environment (e .values) [] kept)) armed)) in
       let kept = ap (λ (r : Call). take (commonOf s .programs) (r .kept)) x ∙ take-fitted 0 8 (commonOf s .programs) (c .call .kept) kept-many (bounds a .programs) in
       let armed = ap (λ (r : Arms). take (r .count) (r .triples)) y ∙ take-fit 0 4 (c .armed) armed-few in
-      let kept-are = kept-passes (fails (sheetOf s) k e (c .call)) (c .armed) in
-      ap (λ (l : List ℕ). numberIn (leastOf 256 l)) (ap₂ low kept armed ∙ keep-same _ (fails (sheetOf s) k e (c .call)) (c .armed) fails-same)
-      ∙ number-least (keep (fails (sheetOf s) k e (c .call)) (c .armed)) (λ i m. omega (arith, armed-exists i (kept-are i m .0), bounds a .last))
+      ap₂ low kept armed ∙ judged-armed
 
 -- The place of the call that ends, the lowest failing triple there, and the state after the exit, from the state as it is held.
 abbrev pub placeIn : Event → WatchState → ℕ
@@ -150,21 +154,21 @@ leftBy s t index e noCall noArms w =
 
 -- An exit that is not refused, on a sound state.
 module _ {s : List ℕ} (a : Accepted sheetLayout s) (σ : State) (e : Event) (h : sound (sheetOf s) σ ≡ true) (z : refusal (sheetOf s) σ e ≡ 0) (x : e .kind ≡ 1) where
-  number-open : any (ofNumber (e .number)) (σ .calls) ≡ true
+  pub number-open : any (ofNumber (e .number)) (σ .calls) ≡ true
   number-open = sym (any-map (λ (c : Calls.Call). eqb (c .number) (e .number)) (λ (c : Armed). c .call) (σ .calls)) ∙ exit-open (free (sheetOf s) σ e z) x
 
   calls-few : length (σ .calls) ≤ 16
   unfolding sound
   calls-few = simp (and-iff, leb-iff) at h .1 .1 .0
 
-  place-below : placeOf (ofNumber (e .number)) (σ .calls) < length (σ .calls)
+  pub place-below : placeOf (ofNumber (e .number)) (σ .calls) < length (σ .calls)
   place-below = ltb-true _ _ (sym (any-place (ofNumber (e .number)) (σ .calls)) ∙ number-open)
 
   held-place : (placeIn e (pad σ) < pad σ .opened) × (pad σ .opened ≤ 16)
   unfolding pad
   held-place = (rw (place-in (e .number) (σ .calls) calls-few) place-below, calls-few)
 
-  values-there : length (e .values) ≡ commonOf s .programs
+  pub values-there : length (e .values) ≡ commonOf s .programs
   unfolding sheetOf
   values-there = free (sheetOf s) σ e z .values
 

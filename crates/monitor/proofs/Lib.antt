@@ -21,3 +21,8 @@ pub mod Following
 pub mod Testing
 pub mod Checks
 pub mod Leaving
+pub mod Entries
+pub mod Skipping
+pub mod Releasing
+pub mod Admitting
+pub mod Rowing

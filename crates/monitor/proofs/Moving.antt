@@ -1,22 +1,25 @@
 -- Taking a transition of an accepted sheet, and where its tables begin. Assumes nothing.
-use mathlib.Core.Path.{_≡_, ap}
-use mathlib.Core.Bool.{false}
+use mathlib.Core.Path.{_≡_, refl, ap}
+use mathlib.Core.Bool.{Bool, false}
 use mathlib.Core.List.{List, []}
-use Prim.Native.Nat.{ℕ, _+_, _≤_, _<_}
+use Prim.Native.Nat.{ℕ, _+_, _*_, _≤_, _<_}
 use native.Mathlib.Omega.{arith}
-use lib.ListN.{length, take}
+use lib.ListN.{length, take, drop}
 use lib.Seq.{length-take-le}
 use Rattle.condition.specs.Meaning.{environment}
 use Rattle.sheet.specs.declared.Record.{Record}
 use Rattle.sheet.specs.Bytes.{byte}
 use Rattle.sheet.specs.Parts.{Sheet}
-use Rattle.sheet.specs.Decode.{commonOf, sheetOf}
+use Rattle.sheet.specs.declared.Transition.{Transition}
+use Rattle.sheet.specs.Table.{table}
+use Rattle.sheet.specs.Decode.{transitionForm, transitionsIn, transitionsAt, lastAt, commonOf, sheetOf}
 use Rattle.sheet.specs.Reading.{transitionsOf, reading, sheetLayout}
 use Rattle.sheet.specs.Log.{Event}
 use Rattle.sheet.specs.declared.Header.{Header}
 use Rattle.sheet.specs.declared.Places.{Places}
 use Rattle.sheet.specs.Answer.{headerOf, placesOf}
 use Rattle.sheet.proofs.Accepted.{accepted, bounds}
+use Rattle.sheet.proofs.Tables.{length-records, fixed-after}
 use Rattle.sheet.proofs.Limits.{sheet-longest, table-places}
 use Rattle.step.specs.declared.Found.{Found}
 use Rattle.step.specs.declared.Moved.{Moved}
@@ -30,6 +33,7 @@ use Rattle.monitor.specs.declared.event.Tables.{Tables}
 use Rattle.monitor.specs.declared.WatchState.{WatchState}
 use Rattle.monitor.specs.Monitor.{refusal}
 use Rattle.monitor.specs.Padded.{view}
+use Rattle.monitor.specs.Firsts.{Past}
 use Rattle.monitor.specs.Walk.{Prepared, actionsOf, movedTo}
 use Rattle.monitor.proofs.Calls.{free}
 
@@ -45,6 +49,17 @@ module _ {s : List ℕ} {t : Tables} {c : List ℕ} (p : Prepared s t c) where
   pub programs-few : t .header .programs ≤ 8
   unfolding commonOf
   programs-few = rw (p .tables) (bounds (accepted sheetLayout s (p .accepted)) .programs)
+
+  -- so many transitions may be passed over
+  module _ (q : Transition → Bool) (i : ℕ) (h : Past q (table transitionForm (t .header .transitions) s (t .transitions)) i) where
+    pub past-low : i ≤ t .header .transitions
+    past-low = rw (length-records transitionForm (t .header .transitions) (drop (t .transitions) s)) at (h .low)
+
+    pub past-fits : t .transitions + 6 * i ≤ t .triples
+    unfolding lastAt
+    past-fits =
+        let ends : t .triples ≡ t .transitions + t .header .transitions * 6 = rw (p .tables) (fixed-after transitionForm 6 (λ l. refl) (transitionsIn s) s (transitionsAt s)) in
+        omega (arith, past-low)
 
   pub moved-there : {i : List ℕ} → i ≡ actionsOf s → (main : ℕ) (variables : List ℕ) (event : Record) (values : List ℕ) (count : ℕ) (f : Found) (r : Moved) → length values ≡ byte s 5 → length variables ≡ 4 → count ≡ t .header .monitors
       → f ≡ firstPlace (enabledAt s c (record { from = main; kind = event .kind; unit = event .unit }) (environment values (take count variables) [])) (baseForm false) (t .header .transitions) s (t .transitions)

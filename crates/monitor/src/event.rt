@@ -9,11 +9,12 @@ ghost use lib.ListN.{length, set, take, drop};
 ghost use Rattle.condition.specs.Meaning.{environment};
 ghost use Rattle.sheet.specs.Bytes.{byte};
 ghost use Rattle.sheet.specs.Table.{fit, table};
-ghost use Rattle.sheet.specs.Decode.{tripleForm, sheetOf};
+ghost use Rattle.sheet.specs.Decode.{transitionForm, tripleForm, sheetOf};
 ghost use Rattle.step.specs.Lists.{keep, numbers};
 ghost use Rattle.step.specs.Walk.{leastOf, eventOf};
 ghost use Rattle.monitor.specs.Monitor as Monitor;
 ghost use Rattle.monitor.specs.Padded.{zeroArms, padArms, pad, view};
+ghost use Rattle.monitor.specs.Firsts.{Past};
 ghost use Rattle.monitor.specs.Walk.{Prepared, Ready, Unrefused, actionsOf, movedTo, armsAt, failsAt, keepBeside};
 use crate::Arms;
 use crate::WatchState;
@@ -76,6 +77,7 @@ pub(crate) fn taken(
         t,
         conditions,
         actions,
+        0,
         state.main,
         variables,
         event,
@@ -103,7 +105,16 @@ fn entered(
 {
     let h = t.header;
     let held = state.main;
-    let arms = arm(s, t.triples, h.last, held, event.unit, conditions, values);
+    let arms = arm(
+        s,
+        t.triples,
+        0,
+        h.last,
+        held,
+        event.unit,
+        conditions,
+        values,
+    );
     let calls = state.calls;
     let row = state.arms;
     let after = to.variables;
@@ -157,18 +168,20 @@ fn exited(
     }
 }
 
-// The first transition that can be taken: its action, then its state.
-fn moved(
+// The first transition that can be taken: its action, then its state. The transitions before `first`
+// leave other states.
+pub(crate) fn moved(
     s: &[u8],
     t: Tables,
     conditions: &[u32; 65],
     actions: &[u32; 65],
+    first: u8,
     main: u8,
     variables: [u32; 4],
     event: Record,
     values: &[u32],
 ) -> Moved
-    requires { ⌜ Prepared (now s) t (now conditions) × (now actions ≡ actionsOf (now s)) × (length (now values) ≡ byte (now s) 5) ⌝ }
+    requires { ⌜ Prepared (now s) t (now conditions) × (now actions ≡ actionsOf (now s)) × (length (now values) ≡ byte (now s) 5) × Past (λ u. eqb (u .from) main) (table transitionForm (t .header .transitions) (now s) (t .transitions)) first ⌝ }
     ensures { λ r. ⌜ r ≡ movedTo (now (s .entry)) main variables (eventOf event (now (values .entry))) ⌝ }
 {
     let h = t.header;
@@ -180,8 +193,8 @@ fn moved(
     };
     let found = step::first_enabled(
         s,
-        t.transitions,
-        h.transitions,
+        t.transitions + 6 * short(first),
+        h.transitions - first,
         false,
         key,
         conditions,
@@ -191,22 +204,25 @@ fn moved(
     step::take_transition(s, found, actions, values, main, variables, count)
 }
 
-// The triples of a state and unit whose precondition holds: the first four, and how many.
-fn arm(
+// The triples of a state and unit whose precondition holds: the first four, and how many. Those before
+// `first` are of other states.
+pub(crate) fn arm(
     s: &[u8],
     at: u16,
+    first: u8,
     n: u8,
     state: u8,
     unit: u8,
     conditions: &[u32; 65],
     values: &[u32],
 ) -> Arms
+    requires { ⌜ Past (λ u. eqb (u .state) state) (table tripleForm n (now s) at) first ⌝ }
     ensures { λ r. ⌜ r ≡ padArms (numbers (armsAt (now (s .entry)) (now (conditions .entry)) state unit (environment (now (values .entry)) [] [])) 0 (table tripleForm n (now (s .entry)) at)) ⌝ }
 {
     let mut triples = [0u8; 4];
     let mut count = 0;
-    let mut i: u8 = 0;
-    let mut place = long(at);
+    let mut i = first;
+    let mut place = long(at) + 4 * word(first);
     while i < n {
         if arms(s, place, state, unit, conditions, values) {
             if count < 4 {
@@ -227,16 +243,20 @@ fn arm(
 fn arms(s: &[u8], at: u32, state: u8, unit: u8, conditions: &[u32; 65], values: &[u32]) -> bool
     ensures { λ r. ⌜ r ≡ armsAt (now (s .entry)) (now (conditions .entry)) state unit (environment (now (values .entry)) [] []) (tripleForm .value (drop at (now (s .entry)))) ⌝ }
 {
-    let t = sheet::triple_at(s, at);
-    if (t.state == state) & (t.unit == unit) {
-        step::condition_holds(
-            s,
-            conditions,
-            t.precondition,
-            values,
-            &values[..0],
-            &values[..0],
-        )
+    if sheet::byte_at(s, at) == state {
+        let t = sheet::triple_at(s, at);
+        if t.unit == unit {
+            step::condition_holds(
+                s,
+                conditions,
+                t.precondition,
+                values,
+                &values[..0],
+                &values[..0],
+            )
+        } else {
+            false
+        }
     } else {
         false
     }
@@ -261,7 +281,7 @@ fn judged(
 }
 
 // The lowest of some triples whose postcondition fails, or 256.
-fn lowest_failing(
+pub(crate) fn lowest_failing(
     s: &[u8],
     at: u16,
     arms: Arms,
@@ -343,6 +363,12 @@ pub(crate) fn word(x: u8) -> u32
     ensures { λ r. ⌜ (r ≡ x) × (r < 256) ⌝ }
 {
     x as u32
+}
+
+fn short(x: u8) -> u16
+    ensures { λ r. ⌜ (r ≡ x) × (r < 256) ⌝ }
+{
+    x as u16
 }
 
 pub(crate) fn long(x: u16) -> u32

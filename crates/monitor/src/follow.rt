@@ -11,7 +11,8 @@ ghost use Rattle.step.specs.Answers.{ranAnswer};
 ghost use Rattle.step.specs.Walk.{eventOf};
 ghost use Rattle.monitor.specs.Monitor as Monitor;
 ghost use Rattle.monitor.specs.Answers.{offerOf, endsIn, runOf};
-ghost use Rattle.monitor.specs.Padded.{soundState};
+ghost use Rattle.monitor.specs.Padded.{pad, soundState};
+ghost use Rattle.monitor.specs.Row.{runningOf};
 ghost use Rattle.monitor.specs.Walk.{Prepared, Ready, actionsOf};
 use crate::Offered;
 use crate::WatchState;
@@ -19,6 +20,9 @@ use crate::event;
 use crate::event::Tables;
 use crate::event::wide;
 use crate::event::word;
+use crate::firsts;
+use crate::row;
+use crate::row::Running;
 use crate::sound;
 use sheet::Header;
 use sheet::LogReading;
@@ -97,20 +101,32 @@ fn follow(s: &[u8], t: Tables, conditions: &[u32; 65], actions: &[u32; 65], log:
     let count = wide(h.programs);
     let size = 4 + 4 * word(h.programs);
     let end = sheet::word_at(log, 0);
-    let mut state = WatchState::started(s);
+    let firsts = firsts::find_firsts(s, t);
+    let mut run = started(s);
+    let mut row = [0u32; 256];
     let mut i = 0;
     let mut at = 6;
     while at < end {
         let event = sheet::record_at(log, at);
         let words = sheet::words_at(log, at + 4, h.programs);
         let values = &words[..count];
-        let number = event::refusal(s, t, conditions, state, event, values);
+        let number = row::refusal(s, t, conditions, run, &row, event, values);
         i += 1;
         if number == 0 {} else {
             return RunAnswer::RefusedAt(number, i);
         }
-        state = event::taken(s, t, conditions, actions, state, event, values);
-        let outcome = state.outcome;
+        run = row::taken(
+            s,
+            t,
+            conditions,
+            actions,
+            firsts,
+            run,
+            &mut row,
+            event,
+            values,
+        );
+        let outcome = run.outcome;
         match outcome {
             Outcome::Judged(v) => {
                 return RunAnswer::Violated(v);
@@ -119,7 +135,23 @@ fn follow(s: &[u8], t: Tables, conditions: &[u32; 65], actions: &[u32; 65], log:
         }
         at += size;
     }
-    RunAnswer::Clean(state.position, state.main, state.opened)
+    RunAnswer::Clean(run.position, run.main, run.opened)
+}
+
+// The fresh state, without its rows.
+fn started(s: &[u8]) -> Running
+    ensures { λ r. ⌜ r ≡ runningOf (pad (Monitor.fresh (sheetOf (now (s .entry))))) ⌝ }
+{
+    let state = WatchState::started(s);
+    let variables = state.variables;
+    let outcome = state.outcome;
+    Running {
+        main: state.main,
+        variables,
+        opened: state.opened,
+        position: state.position,
+        outcome,
+    }
 }
 
 fn tables(header: Header, transitions: u32, triples: u32) -> Tables

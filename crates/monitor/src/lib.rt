@@ -14,7 +14,9 @@ use step::Outcome;
 use step::RunAnswer;
 
 mod event;
+mod firsts;
 mod follow;
+mod row;
 mod sound;
 
 // The triples armed for an open call: the first `count` of four numbers.

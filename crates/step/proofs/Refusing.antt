@@ -17,7 +17,7 @@ use Rattle.step.specs.declared.Call.{Call}
 use Rattle.step.specs.Lists.{any}
 use Rattle.step.specs.Calls as Calls
 use Rattle.step.specs.Calls.{isEntry, isExit, openNumber, openFor, mostCalls, lastPosition, refusalsFor, refusals, lowest}
-use Rattle.step.specs.Walk.{placeOf, unpad, eventOf}
+use Rattle.step.specs.Walk.{placeOf, unpad, eventOf, refusalBy}
 use Rattle.step.proofs.Lists.{any-map}
 use Rattle.step.proofs.Searching.{any-place}
 use Rattle.step.proofs.Keeping.{any-weaker}
@@ -51,14 +51,20 @@ module _ (programs : ℕ) (calls : List Call) (opened : ℕ) (long : length call
   for-there : any (λ c. eqb (c .number) number && eqb (c .unit) unit) (take opened calls) ≡ any (λ c. eqb (c .number) number && eqb (c .unit) unit) (map (unpad programs) (take opened calls))
   for-there = sym (any-map (λ c. eqb (c .number) number && eqb (c .unit) unit) (unpad programs) (take opened calls))
 
-pub refusal-found :
-    (units programs : ℕ) (judged : Bool) (position : ℕ) (calls : List Call) (opened : ℕ) (r : Record) (values : List ℕ) (n place : ℕ) (known : Bool) →
-    length calls ≡ 16 → n ≡ programs → place ≡ placeOf (λ c. eqb (c .number) (r .number)) (take opened calls) → known ≡ any (λ c. eqb (c .number) (r .number) && eqb (c .unit) (r .unit)) (take opened calls) →
-    cond judged 10 (cond (not (leb (r .kind) 1 && (ltb (r .unit) units && eqb (length values) n))) 11 (cond (eqb position lastPosition) 12 (cond (eqb (r .kind) 0 && (ltb place opened && ltb place 16)) 13 (cond (eqb (r .kind) 0 && leb 16 opened) 14 (cond (eqb (r .kind) 1 && not known) 15 0)))))
-    ≡ lowest (refusalsFor units programs judged position (map (unpad programs) (take opened calls)) (eventOf r values))
+-- What is asked of the open calls gives the refusals.
+pub refusal-asked :
+    (units programs : ℕ) (judged : Bool) (position : ℕ) (calls : List Calls.Call) (e : Event) (again full known : Bool) →
+    again ≡ openNumber (e .number) calls → full ≡ leb mostCalls (length calls) → known ≡ openFor e calls → refusalBy units programs judged position again full known e ≡ lowest (refusalsFor units programs judged position calls e)
 unfolding lowest
-refusal-found units programs judged position calls opened r values n place known long en ep ek =
-    rw (en, open-there programs calls opened long (r .number) (r .unit) place ep, full-there programs calls opened long (r .number) (r .unit), ek, for-there programs calls opened long (r .number) (r .unit))
+refusal-asked units programs judged position calls e again full known ea ef ek = rw (ea, ef, ek)
+
+pub refusal-found :
+    (units programs : ℕ) (judged : Bool) (position : ℕ) (calls : List Call) (opened : ℕ) (r : Record) (values : List ℕ) (place : ℕ) (known : Bool) →
+    length calls ≡ 16 → place ≡ placeOf (λ c. eqb (c .number) (r .number)) (take opened calls) → known ≡ any (λ c. eqb (c .number) (r .number) && eqb (c .unit) (r .unit)) (take opened calls) →
+    refusalBy units programs judged position (ltb place opened && ltb place 16) (leb 16 opened) known (eventOf r values) ≡ lowest (refusalsFor units programs judged position (map (unpad programs) (take opened calls)) (eventOf r values))
+refusal-found units programs judged position calls opened r values place known long ep ek =
+    refusal-asked units programs judged position (map (unpad programs) (take opened calls)) (eventOf r values) _ _ _ (open-there programs calls opened long (r .number) (r .unit) place ep) (full-there programs calls opened long (r .number) (r .unit))
+    (ek ∙ for-there programs calls opened long (r .number) (r .unit))
 
 -- An event that is refused for no reason, with or without a verdict, at a position, with some calls open.
 pub record Free (C : Common) (judged : Bool) (position : ℕ) (calls : List Calls.Call) (e : Event) : Type 0 where

@@ -6,7 +6,7 @@ use Prim.Native.Nat.{ℕ, zero, suc, _+_, _-_, _*_, _≤_, _<_}
 use native.Mathlib.Nat.{mul-suc}
 use native.Mathlib.Numerals.{add-one, sub-one}
 use native.Mathlib.Omega.{arith}
-use borrow.Author.Tests.{lt-ltb, le-ltb}
+use borrow.Author.Tests.{lt-ltb, le-ltb, eq-eqb, ne-eqb}
 use lib.Dec.{eqb, ltb, leb·suc-suc}
 use lib.ListN.{length, getD, take, drop, drop-of-length-le, length-take}
 use lib.Seq.{drop-cons, getD-take}
@@ -14,8 +14,10 @@ use Rattle.condition.specs.Meaning.{Environment, environment}
 use Rattle.condition.specs.Answer.{Outcome, conditionOutcome, actionOutcome, actionPaper}
 use Rattle.condition.specs.declared.Performed.{Performed}
 use Rattle.sheet.specs.declared.Transition.{Transition}
+use Rattle.sheet.specs.Bytes.{byte}
 use Rattle.sheet.specs.Table.{Form, after}
 use Rattle.sheet.specs.Decode.{textForm, transitionOf}
+use Rattle.sheet.proofs.Loops.{byte-here}
 use Rattle.sheet.proofs.Tables.{after-step}
 use Rattle.step.specs.declared.Key.{Key}
 use Rattle.step.specs.declared.Found.{Found}
@@ -30,12 +32,31 @@ module _ (s index : List ℕ) (i : ℕ) (E : Environment) (k : ℕ) (e : k ≡ i
   pub holds-past : 65 ≤ k → false ≡ meetsAt s index i E
   holds-past h = rw (← e, le-ltb k 65 h)
 
-module _ (s index : List ℕ) (k : Key) (E : Environment) (t u : Transition) (e : t ≡ u) where
-  pub enabled-there : (eqb (t .from) (k .from) && (eqb (t .kind) (k .kind) && eqb (t .unit) (k .unit))) ≡ true → (b : Bool) → b ≡ meetsAt s index (t .condition) E → b ≡ enabledAt s index k E u
-  enabled-there h b x = rw (← e, h) x
+-- A transition can be taken where its state and the rest fit.
+module _ (s index : List ℕ) (k : Key) (E : Environment) (t u : Transition) (e : t ≡ u) (f : t .from ≡ k .from) where
+  suited : (eqb (t .kind) (k .kind) && eqb (t .unit) (k .unit)) ≡ true → (b : Bool) → b ≡ meetsAt s index (t .condition) E → b ≡ enabledAt s index k E u
+  suited h b x = rw (← e, eq-eqb (t .from) (k .from) f, h) x
 
-  pub enabled-not : (eqb (t .from) (k .from) && (eqb (t .kind) (k .kind) && eqb (t .unit) (k .unit))) ≡ false → false ≡ enabledAt s index k E u
-  enabled-not h = rw (← e, h)
+  unsuited : (eqb (t .kind) (k .kind) && eqb (t .unit) (k .unit)) ≡ false → false ≡ enabledAt s index k E u
+  unsuited h = rw (← e, eq-eqb (t .from) (k .from) f, h)
+
+-- The same for the one at a place, whose first byte is its state.
+module _ (s index : List ℕ) (k : Key) (E : Environment) (at x : ℕ) (f : x ≡ byte s at) where
+  leaves : transitionOf (drop at s) .from ≡ x
+  leaves = sym (f ∙ byte-here s at)
+
+  pub enabled-elsewhere : (x ≡ k .from → ⊥) → false ≡ enabledAt s index k E (transitionOf (drop at s))
+  enabled-elsewhere h = rw (leaves, ne-eqb x (k .from) h)
+
+  module _ (h : x ≡ k .from) (t : Transition) (e : t ≡ transitionOf (drop at s)) where
+    from : t .from ≡ k .from
+    from = ap (λ (u : Transition). u .from) e ∙ leaves ∙ h
+
+    pub enabled-there : (eqb (t .kind) (k .kind) && eqb (t .unit) (k .unit)) ≡ true → (b : Bool) → b ≡ meetsAt s index (t .condition) E → b ≡ enabledAt s index k E (transitionOf (drop at s))
+    enabled-there g b y = suited s index k E t (transitionOf (drop at s)) e from g b y
+
+    pub enabled-not : (eqb (t .kind) (k .kind) && eqb (t .unit) (k .unit)) ≡ false → false ≡ enabledAt s index k E (transitionOf (drop at s))
+    enabled-not g = unsuited s index k E t (transitionOf (drop at s)) e from g
 
 nothing-at : {q : ℕ} → Nothing ≡ At q → ⊥
 nothing-at e = let z : _≡_ {A = ℕ} 0 1 = cc in omega arith

@@ -1,10 +1,10 @@
 -- What the operations on the bytes answer, for all bytes and all indexes. On accepted ones they are the definitions of Meets and Moves.
-use mathlib.Core.Bool.{Bool, false, cond, _&&_}
+use mathlib.Core.Bool.{Bool, false, not, cond, _&&_}
 use mathlib.Core.Option.{Option, none, some}
 use mathlib.Core.List.{List, [], _∷_, _++_}
 use Prim.Native.Nat.{ℕ, zero, suc, _+_, _*_, min}
-use lib.Dec.{ltb, eqb}
-use lib.ListN.{getD, take, drop}
+use lib.Dec.{leb, ltb, eqb}
+use lib.ListN.{length, getD, take, drop}
 use Rattle.condition.specs.Meaning.{Environment, environment}
 use Rattle.condition.specs.Answer.{Outcome, refused, given, conditionOutcome, actionOutcome, actionPaper}
 use Rattle.sheet.specs.declared.Transition.{Transition}
@@ -80,3 +80,9 @@ movedTo C ts main variables e = record { main = movedFrom C ts main variables e 
 -- a byte's number, or none for what is past a byte
 abbrev pub numberIn : ℕ → Option ℕ
 numberIn n = cond (ltb n 256) (some n) none
+
+-- the lowest of refusals 10 to 15 (Calls.refusalsFor), by whether the event's number is open, sixteen calls are, and the number is open for its unit
+abbrev pub refusalBy : ℕ → ℕ → Bool → ℕ → Bool → Bool → Bool → Event → ℕ
+refusalBy units programs judged position again full known e =
+    cond judged 10 (cond (not (leb (e .kind) 1 && (ltb (e .unit) units && eqb (length (e .values)) programs))) 11
+    (cond (eqb position Calls.lastPosition) 12 (cond (Calls.isEntry e && again) 13 (cond (Calls.isEntry e && full) 14 (cond (Calls.isExit e && not known) 15 0)))))

@@ -11,7 +11,7 @@ ghost use Rattle.condition.specs.Answer.{conditionPaper};
 ghost use Rattle.sheet.specs.Decode.{transitionOf};
 ghost use Rattle.step.specs.Lists.{any};
 ghost use Rattle.step.specs.Calls.{refusalsFor, lowest};
-ghost use Rattle.step.specs.Walk.{unpad, eventOf, trueOf, meetsAt, actedAt, placeOf, enabledAt, baseForm, firstPlace, movedAt};
+ghost use Rattle.step.specs.Walk.{unpad, eventOf, trueOf, meetsAt, actedAt, placeOf, enabledAt, baseForm, firstPlace, movedAt, refusalBy};
 use condition::ConditionAnswer;
 use sheet::Record;
 
@@ -177,6 +177,34 @@ pub fn refusal(
 {
     let place = call_place(calls, opened, event.number);
     let known = call_open_for(calls, opened, event.number, event.unit);
+    refusal_by(
+        units,
+        programs,
+        judged,
+        position,
+        (place < opened) & (place < 16),
+        16 <= opened,
+        known,
+        event,
+        values,
+    )
+}
+
+// The same by what is asked of the open calls: whether the event's number is open, whether sixteen are,
+// and whether the number is open for the unit.
+pub fn refusal_by(
+    units: u8,
+    programs: u8,
+    judged: bool,
+    position: u32,
+    again: bool,
+    full: bool,
+    known: bool,
+    event: Record,
+    values: &[u32],
+) -> u8
+    ensures { λ r. ⌜ r ≡ refusalBy units programs judged position again full known (eventOf event (now (values .entry))) ⌝ }
+{
     let entry = event.kind == 0;
     let exit = event.kind == 1;
     let wrong = !((event.kind <= 1) & ((event.unit < units) & (values.len() == number(programs))));
@@ -190,9 +218,9 @@ pub fn refusal(
                 position == 4294967295,
                 12,
                 pick(
-                    entry & ((place < opened) & (place < 16)),
+                    entry & again,
                     13,
-                    pick(entry & (16 <= opened), 14, pick(exit & !known, 15, 0)),
+                    pick(entry & full, 14, pick(exit & !known, 15, 0)),
                 ),
             ),
         ),
@@ -266,9 +294,13 @@ fn enabled(
 ) -> bool
     ensures { λ r. ⌜ r ≡ enabledAt (now (s .entry)) (now (index .entry)) key (environment (now (values .entry)) (now (variables .entry)) []) (transitionOf (drop at (now (s .entry)))) ⌝ }
 {
-    let t = sheet::transition_at(s, at);
-    if (t.from == key.from) & ((t.kind == key.kind) & (t.unit == key.unit)) {
-        condition_holds(s, index, t.condition, values, variables, &values[..0])
+    if sheet::byte_at(s, at) == key.from {
+        let t = sheet::transition_at(s, at);
+        if (t.kind == key.kind) & (t.unit == key.unit) {
+            condition_holds(s, index, t.condition, values, variables, &values[..0])
+        } else {
+            false
+        }
     } else {
         false
     }

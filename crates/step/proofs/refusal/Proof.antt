@@ -1,5 +1,5 @@
 -- `refusal` meets its contract. Assumes nothing.
-use mathlib.Core.Path.{_≡_}
+use mathlib.Core.Path.{_≡_, _∙_}
 use lib.ListN.{length}
 use Rattle.step.proofs.Refusing.{refusal-found}
 use borrow.Author.Needs.{needs}
@@ -8,12 +8,10 @@ use Rattle.step.proofs.refusal.Tie as tie
 
 returns : tie.Need-returns
 returns c =
-    let a = c .before .before .before .before .before .before .before .before .before .before .before .before .before .before .args in
-    let g = c .before .before .before .before .before .before .before .before .before .before .before .before .before .before .good .1 .1 .1 .1 .0 in
+    let a = c .before .before .before .before .args in
     let long : length (a .calls) ≡ 16 = search needs in
-    rw (c .pick6 .ensures, c .before .pick5 .ensures, c .before .before .pick4 .ensures, c .before .before .before .pick3 .ensures, c .before .before .before .before .pick2 .ensures, c .before .before .before .before .before .pick .ensures) (refusal-found (a .units) (a .programs) (a .judged) (a .position) (a .calls) (a .opened) (a .event) (a .values .now) _ _ _ long (c .before .before .before .before .before .before .number .ensures .0) (c .before .before .before .before .before .before .before .before .before .before .before .before .call-place .ensures) (c .before .before .before .before .before .before .before .before .before .before .before .call-open-for .ensures))
+    c .refusal-by .ensures ∙ refusal-found (a .units) (a .programs) (a .judged) (a .position) (a .calls) (a .opened) (a .event) (a .values .now) _ _ long (c .before .before .call-place .ensures) (c .before .call-open-for .ensures)
 
 pub refusal-spec : {M : Type 1} → statement M
 refusal-spec =
-    tie.close
-    (tie.spec (λ c κs. search needs) (λ c κs. search needs) (λ c κs. search needs) (λ c κs. search needs) (λ c κs. search needs) (λ c κs. search needs) (λ c κs. search needs) (λ c κs. search needs) (λ c κs. search needs) returns)
+    tie.close (tie.spec (λ c κs. search needs) (λ c κs. search needs) (λ c κs. search needs) returns)

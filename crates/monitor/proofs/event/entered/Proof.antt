@@ -5,9 +5,13 @@ use native.Mathlib.Omega.{arith}
 use Rattle.sheet.specs.Decode.{sheetOf}
 use Rattle.step.specs.Walk.{eventOf}
 use Rattle.monitor.proofs.Moving.{position-fits}
+use Rattle.monitor.proofs.Skipping.{past-none}
 use Rattle.monitor.proofs.Entering.{opened-room, entered-there}
 use Rattle.monitor.proofs.event.entered.Statement.{statement}
 use Rattle.monitor.proofs.event.entered.Tie as tie
+
+arm-requires : tie.Need-arm-requires
+arm-requires c κs = past-none _ _
 
 add-position : tie.Need-add-position
 add-position c =
@@ -35,4 +39,4 @@ returns c =
 pub entered-spec : {M : Type 1} → statement M
 entered-spec =
     tie.close
-    (tie.spec (λ c κs. search needs) (λ c κs. search needs) (λ c κs. search needs) add-position add-t18 (λ c κs. search needs) (λ c κs. search needs) (λ c κs. search needs) returns)
+    (tie.spec arm-requires (λ c κs. search needs) (λ c κs. search needs) add-position add-t18 (λ c κs. search needs) (λ c κs. search needs) (λ c κs. search needs) returns)
