@@ -134,7 +134,7 @@ module _ (S : Sheet) where
       let calls = ap₂ (beside (shown (S .common .programs))) first second ∙ beside-same (callSound S) (shown (S .common .programs)) f g (shown-back fewer) (σ .calls) k in
       λ i. record { configuration = record { main = σ .configuration .main; variables = variables i }; calls = calls i; position = σ .position; verdict = verdict-outcome (σ .verdict) i }
 
--- A sound state, and a padded one, as the operations take it.
+-- A sound state as the operations take it, and what a padded one shows.
 module _ {s : List ℕ} (a : Accepted sheetLayout s) where
   pub ready-sound : (w : WatchState) → soundState (sheetOf s) w ≡ true → Ready s w
   unfolding soundState
@@ -145,8 +145,3 @@ module _ {s : List ℕ} (a : Accepted sheetLayout s) where
   pub view-back : (σ : State) → sound (sheetOf s) σ ≡ true → view (sheetOf s) (pad σ) ≡ σ
   unfolding sheetOf
   view-back σ h = view-pad (sheetOf s) σ (bounds a .monitors) (bounds a .programs) h
-
-  pub ready-pad : (σ : State) → sound (sheetOf s) σ ≡ true → Ready s (pad σ)
-  ready-pad σ h =
-      let e = view-back σ h in
-      record { sound = ap (sound (sheetOf s)) e ∙ h; padded = ap pad e }
