@@ -58,7 +58,8 @@ impl Frame {
     }
 }
 
-fn record(kind: u8, call: u16, declared: i32, loaded: i32) -> Record {
+/// A record of sheet A's unit.
+pub fn record(kind: u8, call: u16, declared: i32, loaded: i32) -> Record {
     Record {
         kind,
         unit: 0,

@@ -1,6 +1,9 @@
 //! The proved library, by way of its static library, beside the reference on generated inputs; and
 //! the example in C. Only under the feature `embed`.
 
+mod places;
+
+use places::directory;
 use reference::generate::{network_case, run_case, RunCase};
 use reference::program::{output, MOST_INPUT};
 use reference::proved::{self, numbered, Answer};
@@ -227,13 +230,6 @@ fn two_lines(sheet: &[u8], log: &[u8]) -> String {
         Err(refusal) => Outcome::Refused(refusal),
     };
     format!("{}\n{on_network}\n", run_sheet(sheet, log))
-}
-
-/// A directory of this test's own.
-fn directory(name: &str) -> PathBuf {
-    let path = Path::new(env!("CARGO_TARGET_TMPDIR")).join(name);
-    fs::create_dir_all(&path).expect("a directory for the test");
-    path
 }
 
 #[test]

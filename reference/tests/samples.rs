@@ -1,5 +1,7 @@
 //! The samples: the rule for text dumps, and what the tool `samples` writes, checks and refuses.
 
+mod places;
+
 use reference::dump::bytes;
 use std::fs;
 use std::path::{Path, PathBuf};
@@ -31,9 +33,7 @@ fn run(arguments: &[&str]) -> Output {
 
 /// A directory of this test's own with the files above and their bytes.
 fn directory(name: &str) -> PathBuf {
-    let path = Path::new(env!("CARGO_TARGET_TMPDIR")).join(name);
-    let _ = fs::remove_dir_all(&path);
-    fs::create_dir_all(&path).expect("a directory for the test");
+    let path = places::directory(name);
     for (file, text) in FILES {
         fs::write(path.join(file), text).unwrap();
     }

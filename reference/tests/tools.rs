@@ -1,5 +1,8 @@
 //! The binaries: what they write, and what they say to wrong arguments and missing files.
 
+mod places;
+
+use places::directory;
 use reference::programs::PROGRAMS;
 use std::fs;
 use std::io::Write;
@@ -36,14 +39,6 @@ fn assert_one_line_and_failure(output: &Output) {
     assert!(!output.status.success());
     assert_eq!(text.lines().count(), 1, "{text}");
     assert!(output.stdout.is_empty());
-}
-
-/// An empty directory of this test's own.
-fn directory(name: &str) -> PathBuf {
-    let path = Path::new(env!("CARGO_TARGET_TMPDIR")).join(name);
-    let _ = fs::remove_dir_all(&path);
-    fs::create_dir_all(&path).expect("a directory for the test");
-    path
 }
 
 #[test]

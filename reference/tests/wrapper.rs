@@ -1,6 +1,11 @@
 //! The script `watch` at the root: usage, files, standard input, exit statuses, building. Programs
 //! that stand in for the proved one are named by WATCH_PROGRAM.
 
+mod places;
+mod stand_ins;
+
+use places::directory;
+use stand_ins::script;
 use std::fs;
 use std::io::Write;
 use std::os::unix::fs::{symlink, PermissionsExt};
@@ -21,31 +26,6 @@ fn root() -> PathBuf {
 
 fn sample(name: &str) -> String {
     root().join("samples").join(name).to_str().unwrap().into()
-}
-
-/// An empty directory of this test's own.
-fn directory(name: &str) -> PathBuf {
-    let path = Path::new(env!("CARGO_TARGET_TMPDIR")).join(format!("wrapper-{name}"));
-    let _ = fs::remove_dir_all(&path);
-    fs::create_dir_all(&path).expect("a directory for the test");
-    path
-}
-
-/// Writes a shell script that can be run and gives its path.
-fn script(place: &Path, name: &str, text: &str) -> String {
-    let path = place.join(name);
-    // By another process: this one may start a child while it has the file open for writing, and
-    // the child would keep it from being run.
-    let made = Command::new("sh")
-        .args([
-            "-c",
-            "printf '#!/bin/sh\\n%s\\n' \"$2\" >\"$1\" && chmod +x \"$1\"",
-            "sh",
-        ])
-        .args([path.to_str().unwrap(), text])
-        .status();
-    assert!(made.expect("sh starts").success());
-    path.to_str().unwrap().into()
 }
 
 /// The script at the root, with a program in place of the proved one.
