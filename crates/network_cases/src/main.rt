@@ -31,12 +31,25 @@ struct Bank {
 }
 
 fn main() {
+    let mut left: u32 = 64;
+    while 0 < left {
+        if page() {} else {
+            return;
+        }
+        left -= 1;
+    }
+}
+
+// Reads a page of frames and carries it out; answers whether there was one.
+fn page() -> bool {
     let mut input = io::large_buffer();
     let n = io::read_full(0, &mut input);
     script(&input[..n]);
+    0 < n
 }
 
-// Carries out the frames one after the other, to the end or to one that is cut short.
+// Carries out the frames of a page, from no rules and all-zero states on, to the end or to one that is
+// cut short.
 fn script(s: &[u8])
     requires { ⌜ length (now s) ≤ 65536 ⌝ }
 {
