@@ -30,11 +30,18 @@ enum Role {
 /// States 0 and 1, and the bad one.
 const STATES: u8 = 3;
 const BAD: u8 = 2;
-/// The numbers of the conditions by role; condition 0 is `true`.
+/// Of the conditions from 1 on; condition 0 is `true`.
+const ROLES: [Role; 5] = [
+    Role::Guard,
+    Role::Guard,
+    Role::Precondition,
+    Role::Postcondition,
+    Role::Postcondition,
+];
+/// The numbers of the conditions by role, some more often than others.
 const GUARDS: [u8; 5] = [0, 1, 1, 2, 2];
 const PRECONDITIONS: [u8; 3] = [0, 3, 3];
 const POSTCONDITIONS: [u8; 2] = [4, 5];
-const ACTIONS: usize = 3;
 
 /// The units that a sheet has rules for.
 pub fn units(random: &mut Random) -> [u8; 3] {
@@ -48,22 +55,12 @@ pub fn sheet(random: &mut Random, units: &[u8]) -> SheetDraft {
     let mut draft = SheetDraft::new(STATES, MOST_UNITS, MOST_PROGRAM, &initial);
     draft.front.bad = 1 << BAD;
     draft.condition(&Condition::True);
-    for role in [
-        Role::Guard,
-        Role::Guard,
-        Role::Precondition,
-        Role::Postcondition,
-        Role::Postcondition,
-    ] {
+    for role in ROLES {
         draft.condition(&condition(random, role));
     }
-    draft.action(&Action::default());
-    for _ in 1..ACTIONS {
-        draft.action(&action(random));
-    }
-    for unit in units {
-        add_rules(random, *unit, &mut draft);
-    }
+    draft.front.actions = vec![Vec::new(), action(random).bytes(), action(random).bytes()];
+    add_transitions(random, units, &mut draft);
+    add_triples(random, units, &mut draft);
     draft
 }
 
@@ -138,20 +135,31 @@ fn action(random: &mut Random) -> Action {
     Action { assignments }
 }
 
-/// An entry and an exit of the unit that lead on, and one or two triples.
-fn add_rules(random: &mut Random, unit: u8, draft: &mut SheetDraft) {
-    let good = usize::from(BAD);
-    let from = |random: &mut Random| random.below(good) as u8;
-    for (kind, targets) in [(Kind::Entry, good), (Kind::Exit, good + 1)] {
-        let (from, to) = (from(random), random.below(targets) as u8);
-        let action = random.below(ACTIONS) as u8;
+/// An entry and an exit of each unit that lead on; exits lead to the bad state too.
+fn add_transitions(random: &mut Random, units: &[u8], draft: &mut SheetDraft) {
+    let kinds = [(Kind::Entry, BAD), (Kind::Exit, STATES)];
+    for (unit, (kind, targets)) in units
+        .iter()
+        .flat_map(|unit| kinds.map(|kind| (*unit, kind)))
+    {
+        let (from, to) = (good_state(random), random.below(targets.into()) as u8);
+        let action = random.below(draft.front.actions.len()) as u8;
         draft.transition(from, to, (kind, unit), random.pick(&GUARDS), action);
     }
-    for _ in 0..random.between(1, 2) {
-        let state = from(random);
+}
+
+fn good_state(random: &mut Random) -> u8 {
+    random.below(BAD.into()) as u8
+}
+
+/// Mostly one or two for each unit.
+fn add_triples(random: &mut Random, units: &[u8], draft: &mut SheetDraft) {
+    for unit in units.repeat(2) {
+        let state = good_state(random);
         let together = |t: &&[u8; 4]| t[..2] == [state, unit];
         // The units may be the same, and there are at most four of a state and unit.
-        if draft.triples.iter().filter(together).count() < 4 {
+        let room = draft.triples.iter().filter(together).count() < 4;
+        if room && random.chance(3, 4) {
             let precondition = random.pick(&PRECONDITIONS);
             draft.triple(state, unit, precondition, random.pick(&POSTCONDITIONS));
         }
@@ -306,10 +314,7 @@ fn left_in_order<'a, E: Engine>(
     units: &[u8],
     order: [usize; 4],
 ) -> Walk<'a, E> {
-    let mut walk = walk(rules);
-    for number in &numbers(random)[..4] {
-        walk.add_calm(random, |random| entry(random, units, *number));
-    }
+    let mut walk = four_open(random, rules, units);
     let calls = walk.open().to_vec();
     for call in order.iter().filter_map(|place| calls.get(*place)) {
         match walk.open().len() {
@@ -317,6 +322,14 @@ fn left_in_order<'a, E: Engine>(
             1 => walk.add(exit(random, call)),
             _ => walk.add_calm(random, |random| exit(random, call)),
         }
+    }
+    walk
+}
+
+fn four_open<'a, E: Engine>(random: &mut Random, rules: &'a E, units: &[u8]) -> Walk<'a, E> {
+    let mut walk = walk(rules);
+    for number in &numbers(random)[..4] {
+        walk.add_calm(random, |random| entry(random, units, *number));
     }
     walk
 }

@@ -80,6 +80,16 @@ impl Open {
         (unit % 2 == 0 || last > 4).then(|| unit - 8)
     }
 
+    /// As a state holds it.
+    fn held(self) -> Call {
+        let Open(number, unit, last) = self;
+        Call {
+            number,
+            unit,
+            kept: with_last(last),
+        }
+    }
+
     fn enters(self) -> Record {
         enters(self.1, self.0, self.2)
     }
@@ -103,26 +113,20 @@ fn taken<R: Subject>(
     cause: Option<Cause>,
 ) -> String {
     let mut state = R::State::default();
+    for (place, call) in open.iter().enumerate() {
+        R::common_mut(&mut state).calls[place] = call.held();
+        if let Some(triple) = call.triple() {
+            R::arm(&mut state, place, triple);
+        }
+    }
     let common = R::common_mut(&mut state);
     (common.main, common.variables, common.position) = (main, variables, position);
     common.verdict = cause.map(|cause| Verdict { position, cause });
     common.open = open.len() as u8;
-    for (place, Open(number, unit, last)) in common.calls.iter_mut().zip(open) {
-        *place = Call {
-            number: *number,
-            unit: *unit,
-            kept: with_last(*last),
-        };
-    }
-    for (place, call) in open.iter().enumerate() {
-        call.triple()
-            .into_iter()
-            .for_each(|t| R::arm(&mut state, place, t));
-    }
     format!("taken{}", state_text::<R>(&state))
 }
 
-/// A run's line where nothing is left of it but this.
+/// A run's line: main state, open calls, position and verdict.
 fn ran(main: u8, open: usize, position: u32, cause: Option<Cause>) -> String {
     let dash = |number: Option<u8>| number.map_or("-".to_string(), |n| n.to_string());
     match cause {
@@ -150,10 +154,17 @@ fn enter_all<R: Subject>(script: &mut Script<R>, calls: &[Open]) {
     }
 }
 
+/// An event behind these calls: as one event, and as the last of a run.
+fn behind<R: Subject>(script: &mut Script<R>, calls: &[Open], event: &Record, lines: [&str; 2]) {
+    let mut records: Vec<Record> = calls.iter().map(|call| call.enters()).collect();
+    records.push(event.clone());
+    script.offer(event, lines[0]);
+    script.run_records(MOST_PROGRAM, &records, lines[1]);
+}
+
 // ---- Units ------------------------------------------------------------------------------------
 
-/// A call of each unit, whose triple's conditions look at the last value; an exit of unit 10 over 4
-/// leads to state 1, and an entry of unit 8 over 4 changes the last variable.
+/// A call of each unit. An entry of unit 8 over 4 changes the last variable.
 fn units<R: Subject>(script: &mut Script<R>) {
     start(script);
     for (unit, last) in (8..16).flat_map(|unit| [(unit, 4), (unit, 5), (unit, -5)]) {
@@ -164,14 +175,18 @@ fn units<R: Subject>(script: &mut Script<R>) {
         let line = taken::<R>((0, variables), &[call], 1, None);
         script.step(&call.enters(), &line);
         ask_last(script, call);
-        for left in [5, 4, 0, 6, -5] {
-            let main = u8::from(unit == 10 && left > 4);
-            let cause = call.broken_by(left);
-            let line = taken::<R>((main, variables), &[], 2, cause);
-            script.offer(&call.leaves(left), &line);
-            let records = [call.enters(), call.leaves(left)];
-            script.run_records(MOST_PROGRAM, &records, &ran(main, 0, 2, cause));
-        }
+        leave_each_way(script, call, variables);
+    }
+}
+
+/// The exit of the only call with several last values. One of unit 10 over 4 leads to state 1.
+fn leave_each_way<R: Subject>(script: &mut Script<R>, call: Open, variables: [i32; 4]) {
+    for left in [5, 4, 0, 6, -5] {
+        let main = u8::from(call.1 == 10 && left > 4);
+        let cause = call.broken_by(left);
+        let line = taken::<R>((main, variables), &[], 2, cause);
+        let lines = [&line[..], &ran(main, 0, 2, cause)];
+        behind(script, &[call], &call.leaves(left), lines);
     }
 }
 
@@ -195,51 +210,68 @@ fn kept_values<R: Subject>(script: &mut Script<R>) {
     start(script);
     let calls = [Open(0x0201, 14, 1), Open(0x0301, 14, 2)];
     enter_all(script, &calls);
-    for (place, call) in calls.iter().enumerate() {
-        let stays = [calls[1 - place]];
-        for left in [0, 1, 2, 3] {
-            let cause = call.broken_by(left);
-            let line = taken::<R>((0, START), &stays, 3, cause);
-            script.offer(&call.leaves(left), &line);
-            let records = [calls[0].enters(), calls[1].enters(), call.leaves(left)];
-            script.run_records(MOST_PROGRAM, &records, &ran(0, 1, 3, cause));
-        }
+    for (place, left) in [0, 1]
+        .into_iter()
+        .flat_map(|p| [0, 1, 2, 3].map(|l| (p, l)))
+    {
+        let cause = calls[place].broken_by(left);
+        let line = taken::<R>((0, START), &[calls[1 - place]], 3, cause);
+        let lines = [&line[..], &ran(0, 1, 3, cause)];
+        behind(script, &calls, &calls[place].leaves(left), lines);
+    }
+    bytes_of_the_last(script);
+}
+
+/// A last value of four bytes, of which each in turn is another at exit.
+fn bytes_of_the_last<R: Subject>(script: &mut Script<R>) {
+    let call = Open(0x0401, 12, 0x0102_0384);
+    script.restore();
+    enter_all(script, &[call]);
+    for change in [0, 1, 0x0100, 0x0001_0000, 0x0100_0000, i32::MIN] {
+        let left = call.2 ^ change;
+        let cause = call.broken_by(left);
+        let line = taken::<R>((0, START), &[], 2, cause);
+        let lines = [&line[..], &ran(0, 0, 2, cause)];
+        behind(script, &[call], &call.leaves(left), lines);
     }
 }
 
 // ---- Variables --------------------------------------------------------------------------------
 
-/// The last variable made 8, 9 and 10 by an entry of unit 8: only 9 lets an entry of unit 9 on, and an
-/// exit of unit 11 into the bad state.
+/// The last variable made 8, 9 and 10 by an entry of unit 8.
 fn variables<R: Subject>(script: &mut Script<R>) {
     start(script);
     for last in [8, 9, 10] {
-        let (eleven, eight) = (Open(0x010B, 11, 5), Open(0x0108, 8, last));
-        let held = [1, 2, 3, last];
+        let calls = [Open(0x010B, 11, 5), Open(0x0108, 8, last)];
         script.restore();
-        enter_all(script, &[eleven]);
-        let line = taken::<R>((0, held), &[eleven, eight], 2, None);
-        script.step(&eight.enters(), &line);
-        let before = [eleven.enters(), eight.enters()];
-        for left in [5, 6] {
-            let bad = (last == 9).then_some(2);
-            let triple = eleven.broken_by(left).and_then(Cause::triple);
-            let cause = Cause::new(bad, triple);
-            let main = bad.unwrap_or(0);
-            let line = taken::<R>((main, held), &[eight], 3, cause);
-            script.offer(&eleven.leaves(left), &line);
-            let records = [&before[..], &[eleven.leaves(left)]].concat();
-            script.run_records(MOST_PROGRAM, &records, &ran(main, 1, 3, cause));
-        }
-        let nine = Open(0x0109, 9, 4);
-        let (main, first) = if last == 9 { (1, 9) } else { (0, 1) };
-        let line = taken::<R>((main, [first, 2, 3, last]), &[eleven, eight, nine], 3, None);
-        script.offer(&nine.enters(), &line);
-        let records = [&before[..], &[nine.enters()]].concat();
-        script.run_records(MOST_PROGRAM, &records, &ran(main, 3, 3, None));
+        enter_all(script, &calls[..1]);
+        let line = taken::<R>((0, [1, 2, 3, last]), &calls, 2, None);
+        script.step(&calls[1].enters(), &line);
+        led_by_variable(script, calls, last);
     }
     variable_set(script);
     back_again(script);
+}
+
+/// Only 9 lets an entry of unit 9 on, and an exit of unit 11 into the bad state.
+fn led_by_variable<R: Subject>(script: &mut Script<R>, calls: [Open; 2], last: i32) {
+    let [eleven, eight] = calls;
+    let nine = Open(0x0109, 9, 4);
+    let (main, first, bad) = if last == 9 {
+        (1, 9, Some(2))
+    } else {
+        (0, 1, None)
+    };
+    let line = taken::<R>((main, [first, 2, 3, last]), &[eleven, eight, nine], 3, None);
+    let lines = [&line[..], &ran(main, 3, 3, None)];
+    behind(script, &calls, &nine.enters(), lines);
+    for left in [5, 6] {
+        let triple = eleven.broken_by(left).and_then(Cause::triple);
+        let (main, cause) = (bad.unwrap_or(0), Cause::new(bad, triple));
+        let line = taken::<R>((main, [1, 2, 3, last]), &[eight], 3, cause);
+        let lines = [&line[..], &ran(main, 1, 3, cause)];
+        behind(script, &calls, &eleven.leaves(left), lines);
+    }
 }
 
 /// The same where the variable is set and no event has made it.
@@ -263,13 +295,11 @@ fn back_again<R: Subject>(script: &mut Script<R>) {
     script.step(&eight.enters(), &line);
     let line = taken::<R>((1, [9, 2, 3, 9]), &calls, 3, None);
     script.step(&nine.enters(), &line);
-    let before = calls.map(Open::enters);
     for (left, main, last) in [(9, 1, 9), (10, 0, 10), (8, 1, 9), (0, 1, 9)] {
         let cause = twelve.broken_by(left);
         let line = taken::<R>((main, [9, 2, 3, last]), &[eight, nine], 4, cause);
-        script.offer(&twelve.leaves(left), &line);
-        let records = [&before[..], &[twelve.leaves(left)]].concat();
-        script.run_records(MOST_PROGRAM, &records, &ran(main, 2, 4, cause));
+        let lines = [&line[..], &ran(main, 2, 4, cause)];
+        behind(script, &calls, &twelve.leaves(left), lines);
     }
 }
 
@@ -289,21 +319,12 @@ fn numbers<R: Subject>(script: &mut Script<R>) {
         let calls = [0, 1, 2].map(|i| Open(NUMBERS[i], units[i], i as i32 + 1));
         script.restore();
         enter_all(script, &calls);
-        for call in calls {
-            left_by_number(script, &calls, call);
-        }
-        for number in NEAR {
-            near_number(script, &calls, number);
-        }
+        calls
+            .iter()
+            .for_each(|call| left_by_number(script, &calls, *call));
+        NEAR.iter()
+            .for_each(|number| near_number(script, &calls, *number));
     }
-}
-
-/// An event behind these calls: as one event, and as the last of a run.
-fn behind<R: Subject>(script: &mut Script<R>, calls: &[Open], event: &Record, lines: [&str; 2]) {
-    let mut records: Vec<Record> = calls.iter().map(|call| call.enters()).collect();
-    records.push(event.clone());
-    script.offer(event, lines[0]);
-    script.run_records(MOST_PROGRAM, &records, lines[1]);
 }
 
 /// The call's exit with each last value, of another unit, and its number entered again.
@@ -346,25 +367,28 @@ const FOUR: [Open; 4] = [
     Open(0x0208, 8, 4),
 ];
 
-/// Four calls, left in every order. Each exit is offered first with another call's last value, by
-/// which its own triple is broken.
+/// Four calls, left in every order.
 fn orders<R: Subject>(script: &mut Script<R>) {
     start(script);
     enter_all(script, &FOUR);
     script.save();
     for order in wide::orders() {
-        script.restore();
         let calls = order.map(|place| FOUR[place]);
-        for (count, call) in (1..).zip(calls) {
-            let gone = |open: &&Open| !calls[..count].contains(open);
-            let stay: Vec<Open> = FOUR.iter().filter(gone).copied().collect();
-            let position = 4 + count as u32;
-            let line = |cause| taken::<R>((0, START), &stay, position, cause);
-            let wrong = call.2 % 4 + 1;
-            script.offer(&call.leaves(wrong), &line(call.broken_by(wrong)));
-            script.step(&call.leaves(call.2), &line(None));
-        }
+        script.restore();
+        leave_all(script, calls);
         order_runs(script, calls);
+    }
+}
+
+/// Each exit is offered first with another call's last value, by which its own triple is broken.
+fn leave_all<R: Subject>(script: &mut Script<R>, calls: [Open; 4]) {
+    for (count, call) in (1..).zip(calls) {
+        let stays = |open: &&Open| !calls[..count].contains(open);
+        let stay: Vec<Open> = FOUR.iter().filter(stays).copied().collect();
+        let line = |cause| taken::<R>((0, START), &stay, 4 + count as u32, cause);
+        let wrong = call.2 % 4 + 1;
+        script.offer(&call.leaves(wrong), &line(call.broken_by(wrong)));
+        script.step(&call.leaves(call.2), &line(None));
     }
 }
 
