@@ -3,10 +3,12 @@
 
 use crate::engine::{Engine, Event};
 use crate::machine::{Kind, MOST_MONITOR, MOST_PROGRAM, MOST_UNITS};
+use crate::network::Network;
 use crate::refusal::Refusal;
 use crate::run::{follow, read_log, run_records, Record};
 use crate::script::{visit, Page};
 use crate::script_frames::{Frame, Rules};
+use crate::sheet::Sheet;
 use crate::state::{Call, Common};
 use crate::wide::{orders, FIRST_UNIT, LAST_VALUE, LAST_VARIABLE};
 
@@ -30,12 +32,59 @@ enum Oversight {
     Variable,
     /// A byte of the numbers, where events of this kind look for an open call.
     Byte(Kind, Byte),
+    /// Whether units are below 8: of rules, calls and events alike.
+    Unit,
 }
 
 #[derive(Clone, Copy, Debug, PartialEq, Eq)]
 enum Byte {
     High,
     Low,
+}
+
+/// A sheet or network, which can also be had with units that differ by 8 taken for the same.
+pub trait Narrow: Rules {
+    fn narrow(&self) -> Self;
+}
+
+fn narrow_unit(unit: &mut u8) {
+    *unit %= FIRST_UNIT;
+}
+
+impl Narrow for Sheet {
+    fn narrow(&self) -> Sheet {
+        let mut sheet = self.clone();
+        let units = sheet.transitions.iter_mut().map(|t| &mut t.unit);
+        units.for_each(narrow_unit);
+        let units = sheet.triples.iter_mut().map(|t| &mut t.unit);
+        units.for_each(narrow_unit);
+        sheet
+    }
+}
+
+impl Narrow for Network {
+    fn narrow(&self) -> Network {
+        let mut network = self.clone();
+        let units = network.transitions.iter_mut();
+        let units = units.map(|creating| &mut creating.transition.unit);
+        units.for_each(narrow_unit);
+        let units = network.templates.iter_mut().map(|t| &mut t.unit);
+        units.for_each(narrow_unit);
+        network
+    }
+}
+
+/// Rules, and the same narrow.
+struct Both<'a, R> {
+    rules: &'a R,
+    narrow: R,
+}
+
+impl<'a, R: Narrow> Both<'a, R> {
+    fn of(rules: &'a R) -> Both<'a, R> {
+        let narrow = rules.narrow();
+        Both { rules, narrow }
+    }
 }
 
 const STATE: &str = "the state";
@@ -62,8 +111,13 @@ fn overlooked_number(common: &Common, number: u16, byte: Byte) -> u16 {
     open.find(like).unwrap_or(number)
 }
 
+fn narrow_calls(common: &mut Common) {
+    let calls = common.calls.iter_mut();
+    calls.for_each(|call| narrow_unit(&mut call.unit));
+}
+
 impl Oversight {
-    const ALL: [Oversight; 7] = [
+    const ALL: [Oversight; 8] = [
         Oversight::ProgramValue,
         Oversight::KeptValue,
         Oversight::Variable,
@@ -71,6 +125,7 @@ impl Oversight {
         Oversight::Byte(Kind::Entry, Byte::Low),
         Oversight::Byte(Kind::Exit, Byte::High),
         Oversight::Byte(Kind::Exit, Byte::Low),
+        Oversight::Unit,
     ];
 
     fn label(self) -> &'static str {
@@ -82,6 +137,7 @@ impl Oversight {
             Oversight::Byte(Kind::Entry, Byte::Low) => "an entry's low byte decides",
             Oversight::Byte(Kind::Exit, Byte::High) => "an exit's high byte decides",
             Oversight::Byte(Kind::Exit, Byte::Low) => "an exit's low byte decides",
+            Oversight::Unit => "whether a unit is below 8 decides",
         }
     }
 
@@ -92,10 +148,11 @@ impl Oversight {
             Oversight::KeptValue => &[TRIPLE],
             Oversight::Variable => &[STATE, VARIABLE],
             Oversight::Byte(..) => &[],
+            Oversight::Unit => &[STATE, ARMED],
         }
     }
 
-    fn offer<R: Rules>(self, rules: &R, state: &R::State, event: &Event) -> Answer<R> {
+    fn offer<R: Narrow>(self, both: &Both<R>, state: &R::State, event: &Event) -> Answer<R> {
         let (mut state, mut event) = (state.clone(), *event);
         let mut values = event.values.to_vec();
         let common = R::common_mut(&mut state);
@@ -107,10 +164,16 @@ impl Oversight {
             Oversight::Byte(kind, byte) if kind.byte() == event.kind => {
                 event.call = overlooked_number(common, event.call, byte);
             }
-            Oversight::Byte(..) => {}
+            // Units that there are not are left alone.
+            Oversight::Unit if event.unit < MOST_UNITS => {
+                narrow_calls(common);
+                narrow_unit(&mut event.unit);
+                return both.narrow.event(&state, &event);
+            }
+            Oversight::Byte(..) | Oversight::Unit => {}
         }
         event.values = &values;
-        rules.event(&state, &event)
+        both.rules.event(&state, &event)
     }
 
     /// What shows of a state: what is kept does not, nor a variable that may not have been looked at.
@@ -121,8 +184,10 @@ impl Oversight {
             .calls
             .iter_mut()
             .for_each(|c| c.kept = Default::default());
-        if self == Oversight::Variable {
-            common.variables[usize::from(LAST_VARIABLE)] = 0;
+        match self {
+            Oversight::Variable => common.variables[usize::from(LAST_VARIABLE)] = 0,
+            Oversight::Unit => narrow_calls(common),
+            _ => {}
         }
         state
     }
@@ -174,13 +239,14 @@ fn is_looked_at<R: Rules>(rules: &R, records: &[Record]) -> bool {
 }
 
 /// What occurs in a run from the fresh state.
-fn of_run<R: Rules>(rules: &R, records: &[Record]) -> Vec<String> {
+fn of_run<R: Narrow>(rules: &R, records: &[Record]) -> Vec<String> {
     if !is_looked_at(rules, records) {
         return Vec::new();
     }
     let outcome = run_records(rules, records);
+    let both = Both::of(rules);
     let decides = |oversight: &Oversight| {
-        let offer = |r: &R, state: &R::State, event: &Event| oversight.offer(r, state, event);
+        let offer = |_: &R, state: &R::State, event: &Event| oversight.offer(&both, state, event);
         follow(rules, records, offer) != outcome
     };
     let deciding = Oversight::ALL.into_iter().filter(decides);
@@ -190,7 +256,7 @@ fn of_run<R: Rules>(rules: &R, records: &[Record]) -> Vec<String> {
 }
 
 /// The same of a log's bytes, where they are one.
-pub fn of_log<R: Rules>(rules: &R, log: &[u8]) -> Vec<String> {
+pub fn of_log<R: Narrow>(rules: &R, log: &[u8]) -> Vec<String> {
     let records = read_log(log, rules.machine().header.program);
     records.map_or(Vec::new(), |records| of_run(rules, &records))
 }
@@ -223,23 +289,28 @@ fn on_the_way<R: Rules>(rules: &R, records: &[Record]) -> Vec<String> {
 }
 
 /// What occurs where the records are offered one by one, each as a single event.
-pub fn of_steps<R: Rules>(rules: &R, records: &[Record]) -> Vec<String> {
+pub fn of_steps<R: Narrow>(rules: &R, records: &[Record]) -> Vec<String> {
     let mut labels = Vec::new();
     if is_looked_at(rules, records) {
-        each_step(rules, records, |state, record, _| {
-            labels.extend(of_event(rules, state, record));
+        let both = Both::of(rules);
+        each_step(rules, records, |state, record, answer| {
+            labels.extend(of_event(&both, state, record, answer));
         });
     }
     labels
 }
 
-/// What occurs where one event is offered.
-fn of_event<R: Rules>(rules: &R, state: &R::State, record: &Record) -> Vec<String> {
-    let answer = rules.event(state, &record.event());
-    let mut labels = facts::<R>(state, record, &answer);
+/// What occurs where one event is offered and this is the answer.
+fn of_event<R: Narrow>(
+    both: &Both<R>,
+    state: &R::State,
+    record: &Record,
+    answer: &Answer<R>,
+) -> Vec<String> {
+    let mut labels = facts::<R>(state, record, answer);
     for oversight in Oversight::ALL {
-        let other = oversight.offer(rules, state, &record.event());
-        labels.extend(oversight.decided::<R>(&answer, &other));
+        let other = oversight.offer(both, state, &record.event());
+        labels.extend(oversight.decided::<R>(answer, &other));
     }
     labels
 }
@@ -304,7 +375,7 @@ fn order_label(order: [usize; 4]) -> String {
 // ---- Scripts ----------------------------------------------------------------------------------
 
 /// What occurs in the events and in the runs of a script, of a sheet or of a network.
-pub fn of_script<R: Rules>(engine: &str, pages: &[Page<R::Own>]) -> Vec<String> {
+pub fn of_script<R: Narrow>(engine: &str, pages: &[Page<R::Own>]) -> Vec<String> {
     let (mut labels, mut leaving) = (Vec::new(), Leaving::default());
     visit::<R>(pages, |bench, row| {
         let Some(rules) = R::read(&bench.rules).ok().filter(is_wide) else {
@@ -313,8 +384,8 @@ pub fn of_script<R: Rules>(engine: &str, pages: &[Page<R::Own>]) -> Vec<String> 
         let (of, found) = match &row.frame {
             Frame::Run(log) => ("run", of_log(&rules, log)),
             Frame::Offer { event, keep } => {
-                let mut found = of_event(&rules, &bench.state, event);
                 let answer = rules.event(&bench.state, &event.event());
+                let mut found = of_event(&Both::of(&rules), &bench.state, event, &answer);
                 if *keep && answer.is_ok() {
                     found.extend(leaving.see(bench.common().open_calls(), event));
                 }

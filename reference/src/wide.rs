@@ -202,10 +202,13 @@ pub fn last_value(random: &mut Random) -> i32 {
     }
 }
 
+/// Of one of these units; sometimes of the one that is 8 less, which has no rules.
 fn entry(random: &mut Random, units: &[u8], call: u16) -> Record {
+    let unit = random.pick(units);
+    let none = random.chance(1, 6);
     Record {
         kind: Kind::Entry.byte(),
-        unit: random.pick(units),
+        unit: if none { unit - FIRST_UNIT } else { unit },
         call,
         values: values(random),
     }
@@ -360,12 +363,13 @@ pub fn any_calls<E: Engine>(random: &mut Random, rules: &E, units: &[u8]) -> Vec
     walk.records
 }
 
-/// An exit with any values, an exit of a number that is nearly the call's, or the number again.
+/// An exit with any values, an exit of nearly the call's number or unit, or the number again.
 fn last_record(random: &mut Random, units: &[u8], call: &Call) -> Record {
     let mut record = exit(random, call);
-    match random.below(4) {
+    match random.below(6) {
         0 => record.call = other_byte(random, call.number),
         1 => record = entry(random, units, call.number),
+        2 => record.unit ^= FIRST_UNIT,
         _ => {}
     }
     record

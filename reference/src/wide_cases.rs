@@ -11,7 +11,7 @@ use crate::script::{entry, exit, Page, Script, Sort};
 use crate::script_frames::{state_text, Field, Frame, Own};
 use crate::shared_cases::Subject;
 use crate::state::{Call, Cause, Verdict};
-use crate::wide::{self, LAST_VALUE, LAST_VARIABLE};
+use crate::wide::{self, FIRST_UNIT, LAST_VALUE, LAST_VARIABLE};
 
 /// Generated sheets or networks of a page.
 const RULES: usize = 50;
@@ -70,14 +70,15 @@ fn leaves(unit: u8, call: u16, last: i32) -> Record {
 }
 
 /// An open call: its number, its unit and its last value at entry. Its triple is armed, but for an odd
-/// unit's with a value up to 4.
+/// unit's with a value up to 4; units below 8 have none.
 #[derive(Clone, Copy, PartialEq)]
 struct Open(u16, u8, i32);
 
 impl Open {
     fn triple(self) -> Option<u8> {
         let Open(_, unit, last) = self;
-        (unit % 2 == 0 || last > 4).then(|| unit - 8)
+        let triple = unit.checked_sub(FIRST_UNIT);
+        triple.filter(|_| unit % 2 == 0 || last > 4)
     }
 
     /// As a state holds it.
@@ -167,7 +168,7 @@ fn behind<R: Subject>(script: &mut Script<R>, calls: &[Open], event: &Record, li
 /// A call of each unit. An entry of unit 8 over 4 changes the last variable.
 fn units<R: Subject>(script: &mut Script<R>) {
     start(script);
-    for (unit, last) in (8..16).flat_map(|unit| [(unit, 4), (unit, 5), (unit, -5)]) {
+    for (unit, last) in (8..16).flat_map(|unit| [(unit, 4), (unit, 5)]) {
         let call = Open(0x0100 + u16::from(unit), unit, last);
         let mut variables = START;
         variables[3] = if unit == 8 { last.max(4) } else { 4 };
@@ -176,12 +177,29 @@ fn units<R: Subject>(script: &mut Script<R>) {
         script.step(&call.enters(), &line);
         ask_last(script, call);
         leave_each_way(script, call, variables);
+        let other = leaves(unit - FIRST_UNIT, call.0, last);
+        behind(script, &[call], &other, ["refused 15", "refused 15 at 2"]);
+    }
+    units_below(script);
+}
+
+/// The same events of the units that are 8 less: nothing is armed, and nothing leads on.
+fn units_below<R: Subject>(script: &mut Script<R>) {
+    for unit in 0..8 {
+        let call = Open(0x0100 + u16::from(unit), unit, 5);
+        script.restore();
+        enter_all(script, &[call]);
+        let line = taken::<R>((0, START), &[], 2, None);
+        let lines = [&line[..], &ran(0, 0, 2, None)];
+        behind(script, &[call], &call.leaves(6), lines);
+        let other = leaves(unit + FIRST_UNIT, call.0, 5);
+        behind(script, &[call], &other, ["refused 15", "refused 15 at 2"]);
     }
 }
 
 /// The exit of the only call with several last values. One of unit 10 over 4 leads to state 1.
 fn leave_each_way<R: Subject>(script: &mut Script<R>, call: Open, variables: [i32; 4]) {
-    for left in [5, 4, 0, 6, -5] {
+    for left in [5, 4, 0, 6] {
         let main = u8::from(call.1 == 10 && left > 4);
         let cause = call.broken_by(left);
         let line = taken::<R>((main, variables), &[], 2, cause);
