@@ -3,9 +3,12 @@
 use crate::draft::{NetworkDraft, SheetDraft};
 use crate::expr::{Action, Condition, Counts, Value, LONGEST};
 use crate::machine::Kind;
+use crate::network::Network;
 use crate::random::Random;
 use crate::random_expr::{self, Taste};
 use crate::run::{write_log, Record};
+use crate::sheet::Sheet;
+use crate::wide;
 
 /// How large a sheet is to be.
 #[derive(Clone, Copy, Debug, PartialEq, Eq)]
@@ -224,6 +227,11 @@ fn add_triples(random: &mut Random, size: Size, pool: &Pool, draft: &mut SheetDr
 /// A network that no sheet need give: any pairs, the same template twice, several for a state.
 pub fn network(random: &mut Random, size: Size) -> NetworkDraft {
     let base = sheet(random, size);
+    network_like(random, base)
+}
+
+/// A network with a sheet's tables, and any pairs.
+pub fn network_like(random: &mut Random, base: SheetDraft) -> NetworkDraft {
     let mut draft = NetworkDraft {
         front: base.front,
         transitions: Vec::new(),
@@ -650,8 +658,27 @@ fn any_length(random: &mut Random, most: usize) -> usize {
     length.min(most)
 }
 
-/// A sheet and a log: mostly sound, sometimes broken or damaged.
+/// One case in this many is a wide one.
+const WIDE: usize = 8;
+
+/// A sheet and a log of any sort.
 pub fn run_case(random: &mut Random) -> RunCase {
+    if random.chance(1, WIDE) {
+        return wide_case(random);
+    }
+    usual_case(random)
+}
+
+/// A wide sheet and a log for it.
+fn wide_case(random: &mut Random) -> RunCase {
+    let units = wide::units(random);
+    let sheet = wide::sheet(random, &units).bytes();
+    let log = wide::log::<Sheet>(random, &sheet, &units);
+    RunCase { sheet, log }
+}
+
+/// A sheet and a log: mostly sound, sometimes broken or damaged.
+pub fn usual_case(random: &mut Random) -> RunCase {
     let size = any_size(random);
     let draft = sheet(random, size);
     let shape = Shape::of(&draft);
@@ -676,9 +703,26 @@ pub struct NetworkCase {
     pub log: Vec<u8>,
 }
 
+/// A network of its own and a log of any sort.
+pub fn network_case(random: &mut Random, sheet_log: &[u8]) -> NetworkCase {
+    if random.chance(1, WIDE) {
+        return wide_network_case(random);
+    }
+    usual_network_case(random, sheet_log)
+}
+
+/// A wide network that no sheet need give, and a log for it.
+fn wide_network_case(random: &mut Random) -> NetworkCase {
+    let units = wide::units(random);
+    let base = wide::sheet(random, &units);
+    let network = network_like(random, base).bytes();
+    let log = wide::log::<Network>(random, &network, &units);
+    NetworkCase { network, log }
+}
+
 /// A network of its own, sometimes broken, with a log that fits it; and now and then a log that
 /// was made for a sheet.
-pub fn network_case(random: &mut Random, sheet_log: &[u8]) -> NetworkCase {
+fn usual_network_case(random: &mut Random, sheet_log: &[u8]) -> NetworkCase {
     let size = if random.chance(1, 4) {
         Size::Any
     } else {

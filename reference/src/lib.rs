@@ -2,6 +2,7 @@
 //! papers alone. It decodes bytes into owned structures and evaluates trees.
 
 pub mod condition_cases;
+pub mod deciding;
 pub mod draft;
 pub mod dump;
 pub mod engine;
@@ -16,6 +17,7 @@ pub mod network;
 pub mod network_cases;
 pub mod network_clauses;
 pub mod network_frames;
+pub mod pages;
 pub mod program;
 pub mod program_cases;
 pub mod programs;
@@ -39,6 +41,8 @@ pub mod tally;
 pub mod translate;
 pub mod translation_cases;
 pub mod translation_frames;
+pub mod wide;
+pub mod wide_cases;
 #[cfg(feature = "embed")]
 pub mod workloads;
 

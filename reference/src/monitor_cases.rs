@@ -12,8 +12,10 @@ use crate::script_frames::{Bench, Field, Set};
 use crate::shared_cases::{self, base, full_state, tiny, Events, Near, Subject};
 use crate::sheet::Sheet;
 use crate::sheet_cases::SHEET_A;
+use crate::state::SheetState;
+use crate::{wide, wide_cases};
 
-pub type Row = script::Row<Arms>;
+pub type Page = script::Page<Arms>;
 type Script = script::Script<Sheet>;
 
 impl Subject for Sheet {
@@ -33,6 +35,16 @@ impl Subject for Sheet {
 
     fn of_sheet(draft: &SheetDraft) -> Vec<u8> {
         draft.bytes()
+    }
+
+    fn wide(random: &mut Random, units: &[u8]) -> Vec<u8> {
+        wide::sheet(random, units).bytes()
+    }
+
+    fn arm(state: &mut SheetState, place: usize, triple: u8) {
+        let armed = &mut state.armed[place];
+        armed.triples[usize::from(armed.count)] = triple;
+        armed.count += 1;
     }
 
     fn own_field(random: &mut Random, number: usize, _: &Bench<Sheet>, near: Near) -> Set<Arms> {
@@ -244,8 +256,9 @@ fn random_cases(script: &mut Script) {
 
 // ---- All --------------------------------------------------------------------------------------
 
-pub fn all() -> Vec<Row> {
-    Script::of(&[
+/// The first page has no room for more.
+pub fn all() -> Vec<Page> {
+    let first = Script::of(&[
         document,
         soundness,
         positions,
@@ -254,5 +267,9 @@ pub fn all() -> Vec<Row> {
         reading,
         shared_cases::logs,
         random_cases,
-    ])
+    ]);
+    [vec![first], wide_cases::pages::<Sheet>()]
+        .into_iter()
+        .flatten()
+        .collect()
 }

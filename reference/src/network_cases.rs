@@ -16,9 +16,10 @@ use crate::script_frames::{put, Bench, Field, Set};
 use crate::shared_cases::{self, base, base_state, full_state, tiny, Events, Near, Subject};
 use crate::sheet::Sheet;
 use crate::sheet_cases::{greatest_network, NETWORK_A};
-use crate::state::MOST_CHECKERS;
+use crate::state::{NetworkState, MOST_CHECKERS};
+use crate::{wide, wide_cases};
 
-pub type Row = script::Row<Checkers>;
+pub type Page = script::Page<Checkers>;
 type Script = script::Script<Network>;
 
 impl Subject for Network {
@@ -41,6 +42,21 @@ impl Subject for Network {
     fn of_sheet(draft: &SheetDraft) -> Vec<u8> {
         // Drafts that are no sheets are not asked for.
         Sheet::read(&draft.bytes()).map_or(Vec::new(), |sheet| sheet.translate().bytes())
+    }
+
+    fn wide(random: &mut Random, units: &[u8]) -> Vec<u8> {
+        let sheet = wide::sheet(random, units);
+        match random.below(2) {
+            0 => Network::of_sheet(&sheet),
+            _ => generate::network_like(random, sheet).bytes(),
+        }
+    }
+
+    fn arm(state: &mut NetworkState, place: usize, triple: u8) {
+        let call = state.common.calls[place].number;
+        let checker = &mut state.checkers[usize::from(state.living)];
+        (checker.call, checker.template) = (call, triple);
+        state.living += 1;
     }
 
     fn own_field(
@@ -857,8 +873,9 @@ fn random_cases(script: &mut Script) {
 
 // ---- All --------------------------------------------------------------------------------------
 
-pub fn all() -> Vec<Row> {
-    Script::of(&[
+/// The first page has no room for more.
+pub fn all() -> Vec<Page> {
+    let first = Script::of(&[
         document,
         creating,
         pairs,
@@ -872,5 +889,9 @@ pub fn all() -> Vec<Row> {
         shared_cases::logs,
         logs_by_hand,
         random_cases,
-    ])
+    ]);
+    [vec![first], wide_cases::pages::<Network>()]
+        .into_iter()
+        .flatten()
+        .collect()
 }

@@ -6,7 +6,7 @@ use crate::translate::{translate, BUFFER};
 pub const MOST_INPUT: usize = 65_536;
 
 /// Where the log begins: after as many bytes as the first two say, if there are that many.
-fn split(input: &[u8]) -> (&[u8], &[u8]) {
+pub fn split(input: &[u8]) -> (&[u8], &[u8]) {
     let &[high, low, ..] = input else {
         return (input, &[]);
     };

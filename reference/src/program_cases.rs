@@ -1,18 +1,25 @@
 //! The cases of the program `cases`: whole inputs of `watch`. Document 01's sample, inputs at the
 //! edges of what the program takes, and random ones from a fixed seed.
 
-use crate::generate::run_case;
+use crate::generate::{usual_case, RunCase};
+use crate::machine::MOST_PROGRAM;
+use crate::pages;
 use crate::program::{output, MOST_INPUT};
 use crate::random::Random;
 use crate::run::{write_log, Record};
+use crate::sheet::Sheet;
 use crate::sheet_cases::SHEET_A;
+use crate::tally::reach;
+use crate::wide;
 
-/// The program reads its script in pages of this many bytes; no frame goes over the end of one.
-pub const PAGE: usize = 65_536;
-const FILLER: u8 = 255;
 const SEED: u64 = 20_261_115;
 const RANDOM: usize = 2_400;
 const LONGEST: usize = 300;
+const WIDE_SEED: u64 = 20_261_116;
+/// How often each order of four exits comes.
+const EACH_ORDER: usize = 3;
+/// Wide inputs with calls as they come.
+const ANY_CALLS: usize = 180;
 
 pub enum Frame {
     /// An input, byte for byte.
@@ -37,12 +44,7 @@ impl Frame {
 
     /// Appends the frame, on a new page where this one has no room for it.
     pub fn write(&self, out: &mut Vec<u8>) {
-        let bytes = self.bytes();
-        let room = PAGE - out.len() % PAGE;
-        if room < bytes.len() {
-            out.resize(out.len() + room, FILLER);
-        }
-        out.extend(bytes);
+        pages::append(&self.bytes(), out);
     }
 
     pub fn input(&self) -> Vec<u8> {
@@ -115,7 +117,7 @@ fn random() -> Vec<Frame> {
     let mut random = Random::new(SEED);
     let mut frames = Vec::new();
     while frames.len() < RANDOM {
-        let input = run_case(&mut random).input();
+        let input = usual_case(&mut random).input();
         if input.len() <= LONGEST {
             frames.push(Frame::Bytes(input));
         }
@@ -123,16 +125,46 @@ fn random() -> Vec<Frame> {
     frames
 }
 
+/// Wide sheets, with four calls left in every order and with calls as they come.
+fn wide() -> Vec<Frame> {
+    let mut random = Random::new(WIDE_SEED);
+    let orders = wide::orders().repeat(EACH_ORDER).into_iter().map(Some);
+    let all = orders.chain([None; ANY_CALLS]);
+    all.map(|order| wide_input(&mut random, order)).collect()
+}
+
+/// Drawn again where the run ends before its last record, if the order is asked for.
+fn wide_input(random: &mut Random, order: Option<[usize; 4]>) -> Frame {
+    loop {
+        let units = wide::units(random);
+        let sheet = wide::sheet(random, &units).bytes();
+        let Ok(rules) = Sheet::read(&sheet) else {
+            continue; // Does not happen: a wide sheet is accepted.
+        };
+        let records = match order {
+            Some(order) => wide::four_calls(random, &rules, &units, order),
+            None => wide::any_calls(random, &rules, &units),
+        };
+        let taken = reach(&rules, &records).common.position as usize;
+        if order.is_none() || taken == records.len() {
+            let log = write_log(MOST_PROGRAM, &records);
+            return Frame::Bytes(RunCase { sheet, log }.input());
+        }
+    }
+}
+
 pub fn all() -> Vec<Frame> {
     let mut frames = documented();
     frames.extend(at_the_edges());
     frames.extend(random());
+    frames.extend(wide());
     frames
 }
 
 #[cfg(test)]
 mod tests {
     use super::*;
+    use crate::pages::{MOST, PAGE};
     use std::collections::BTreeMap;
 
     /// The two lines with their numbers taken out, but for a refusal's.
@@ -182,13 +214,13 @@ mod tests {
     #[test]
     fn there_are_over_two_thousand_inputs_and_no_frame_goes_over_a_page() {
         let frames = all();
-        assert!(frames.len() > 2_400);
+        assert!(frames.len() > 2_650);
         let mut out = Vec::new();
         for frame in &frames {
             frame.write(&mut out);
             let size = frame.bytes().len();
             assert_eq!((out.len() - size) / PAGE, (out.len() - 1) / PAGE);
         }
-        assert!(out.len() <= 64 * PAGE);
+        assert!(out.len() <= MOST * PAGE);
     }
 }

@@ -1,9 +1,12 @@
 //! The case programs, and what their input and expected output hold. To add one, add a line to
 //! `PROGRAMS` and describe its frames in CASES.md.
 
+use crate::script::Page;
+use crate::script_frames::Own;
 use crate::translation_frames::Frame;
 use crate::{
-    condition_cases, monitor_cases, network_cases, program_cases, sheet_cases, translation_cases,
+    condition_cases, monitor_cases, network_cases, pages, program_cases, sheet_cases,
+    translation_cases,
 };
 
 pub struct Program {
@@ -37,17 +40,11 @@ pub const PROGRAMS: &[Program] = &[
     },
     Program {
         name: "monitor_cases",
-        make: || {
-            let rows = monitor_cases::all();
-            gather(rows.iter(), |r, out| r.frame.write(out), |r| r.line.clone())
-        },
+        make: || script(&monitor_cases::all()),
     },
     Program {
         name: "network_cases",
-        make: || {
-            let rows = network_cases::all();
-            gather(rows.iter(), |r, out| r.frame.write(out), |r| r.line.clone())
-        },
+        make: || script(&network_cases::all()),
     },
     Program {
         name: "translation_cases",
@@ -85,6 +82,18 @@ fn gather<F>(
             files.stdout.extend(line.into_bytes());
             files.stdout.push(b'\n');
         }
+    }
+    files
+}
+
+/// The pages of a script, each filled but for the last.
+fn script<O: Own>(all: &[Page<O>]) -> Files {
+    let mut files = Files::default();
+    for page in all {
+        let part = gather(page.iter(), |r, out| r.frame.write(out), |r| r.line.clone());
+        pages::fill(&mut files.stdin);
+        files.stdin.extend(part.stdin);
+        files.stdout.extend(part.stdout);
     }
     files
 }

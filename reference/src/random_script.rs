@@ -85,7 +85,7 @@ fn run_to<R: Rules + Clone>(
 }
 
 /// Sometimes the values at entry of a checker, where states have checkers.
-fn ask_any<R: Rules>(script: &mut Script<R>, random: &mut Random) {
+pub fn ask_any<R: Rules>(script: &mut Script<R>, random: &mut Random) {
     if R::Own::CHECKERS && random.chance(1, ASKED) {
         let place = random.pick(&[0, 0, 0, 1, 1, 2, 3, 5, 63, 64]);
         script.add(Frame::EntryValues(place), None);

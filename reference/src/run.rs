@@ -138,9 +138,12 @@ pub fn run_unjudged<E: Engine>(engine: &E, log: &[u8]) -> Outcome {
     }
 }
 
-type Offer<E> = fn(&E, &<E as Engine>::State, &Event) -> Result<<E as Engine>::State, Refusal>;
-
-fn follow<E: Engine>(engine: &E, records: &[Record], offer: Offer<E>) -> Outcome {
+/// The run in which each record's event is offered in this way.
+pub fn follow<E: Engine>(
+    engine: &E,
+    records: &[Record],
+    offer: impl Fn(&E, &E::State, &Event) -> Result<E::State, Refusal>,
+) -> Outcome {
     let mut state = engine.fresh();
     for (record, number) in records.iter().zip(1u32..) {
         state = match offer(engine, &state, &record.event()) {

@@ -31,6 +31,8 @@ pub enum Sort {
     Nesting,
     /// The values at entry of checkers.
     Values,
+    /// The last of the values and variables, units from 8 on, numbers over 255.
+    Wide,
 }
 
 /// A frame, the line that the reference gives for it, and the answer written down by hand.
@@ -42,6 +44,24 @@ pub struct Row<O> {
     pub expected: Option<String>,
 }
 
+/// A script of its own: at most as many bytes as a page has.
+pub type Page<O> = Vec<Row<O>>;
+
+/// Each row, with what the rows of its page before it have laid out.
+pub fn visit<R: Rules>(pages: &[Page<R::Own>], mut see: impl FnMut(&Bench<R>, &Row<R::Own>)) {
+    for page in pages {
+        visit_page(page, &mut see);
+    }
+}
+
+fn visit_page<R: Rules>(page: &[Row<R::Own>], see: &mut impl FnMut(&Bench<R>, &Row<R::Own>)) {
+    let mut bench = Bench::default();
+    for row in page {
+        see(&bench, row);
+        bench.carry_out(&row.frame);
+    }
+}
+
 /// The rows so far, and where they have led.
 pub struct Script<R: Rules> {
     pub rows: Vec<Row<R::Own>>,
@@ -51,7 +71,7 @@ pub struct Script<R: Rules> {
 
 impl<R: Rules> Script<R> {
     /// The rows that these parts make, one after the other.
-    pub fn of(parts: &[fn(&mut Script<R>)]) -> Vec<Row<R::Own>> {
+    pub fn of(parts: &[fn(&mut Script<R>)]) -> Page<R::Own> {
         let mut script = Script {
             rows: Vec::new(),
             bench: Bench::default(),

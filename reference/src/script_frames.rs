@@ -322,6 +322,18 @@ pub fn read_frames<O: Own>(bytes: &[u8]) -> Option<Vec<Frame<O>>> {
     read_all(bytes, read_frame)
 }
 
+/// Reads the frames of a page, up to what is none, and gives the bytes from there on.
+pub fn read_page<O: Own>(bytes: &[u8]) -> (Vec<Frame<O>>, &[u8]) {
+    let (mut frames, mut rest) = (Vec::new(), bytes);
+    loop {
+        let from_here = rest;
+        match read_frame(&mut rest) {
+            Some(frame) => frames.push(frame),
+            None => return (frames, from_here),
+        }
+    }
+}
+
 fn read_frame<O: Own>(rest: &mut &[u8]) -> Option<Frame<O>> {
     Some(match read_byte(rest)? {
         0 => Frame::Rules(read_bytes(rest)?),

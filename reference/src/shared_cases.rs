@@ -20,6 +20,10 @@ pub trait Subject: Rules {
 
     /// The bytes of a sheet, or those of its network.
     fn of_sheet(draft: &SheetDraft) -> Vec<u8>;
+    /// The bytes of a random wide sheet with rules for these units, or of such a network.
+    fn wide(random: &mut Random, units: &[u8]) -> Vec<u8>;
+    /// One triple more is armed for the call at a place, the last so far.
+    fn arm(state: &mut Self::State, place: usize, triple: u8);
     /// One of the fields that only these states have, by its number, near what the state holds.
     fn own_field(
         random: &mut Random,

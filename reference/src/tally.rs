@@ -1,5 +1,6 @@
 //! Makes many cases from a fixed seed and counts what occurred in them.
 
+use crate::deciding::{self, named, of_log, of_steps};
 use crate::engine::Engine;
 use crate::generate::{self, RunCase};
 use crate::network::Network;
@@ -23,6 +24,19 @@ pub struct Tally {
 }
 
 impl Tally {
+    /// Of things that have been named elsewhere.
+    pub fn of(labels: impl IntoIterator<Item = String>) -> Tally {
+        let mut tally = Tally::default();
+        tally.add_all(labels);
+        tally
+    }
+
+    fn add_all(&mut self, labels: impl IntoIterator<Item = String>) {
+        for label in labels {
+            self.add(label);
+        }
+    }
+
     fn add(&mut self, label: impl Into<String>) {
         *self.counts.entry(label.into()).or_insert(0) += 1;
     }
@@ -38,10 +52,12 @@ impl Tally {
 
     /// What must occur and did not.
     pub fn missing(&self) -> Vec<String> {
-        wanted()
-            .into_iter()
-            .filter(|label| self.count(label) == 0)
-            .collect()
+        self.missing_of(wanted())
+    }
+
+    pub fn missing_of(&self, wanted: impl IntoIterator<Item = String>) -> Vec<String> {
+        let absent = |label: &String| self.count(label) == 0;
+        wanted.into_iter().filter(absent).collect()
     }
 }
 
@@ -71,6 +87,8 @@ pub fn wanted() -> Vec<String> {
             labels.push(format!("{engine} event: refused {number:02}"));
         }
         labels.push(format!("{engine} event: taken"));
+        labels.extend(named(engine, "run", deciding::wanted_of_runs()));
+        labels.extend(named(engine, "event", deciding::wanted_of_events()));
     }
     labels.push("input: the longest sheet".into());
     labels.push("input: no room for another record".into());
@@ -135,13 +153,27 @@ fn count_run(case: &RunCase, tally: &mut Tally) -> Result<(), String> {
             "the sheet's run gives {sheet}, the network's {network}"
         ));
     }
+    tally.add_all(of_input(&case.sheet, &case.log));
     Ok(())
+}
+
+/// What decides in the sheet's run and in that of its network.
+pub fn of_input(sheet: &[u8], log: &[u8]) -> Vec<String> {
+    let Ok(sheet) = Sheet::read(sheet) else {
+        return Vec::new();
+    };
+    let on_sheet = named("sheet", "run", of_log(&sheet, log));
+    let on_network = named("network", "run", of_log(&sheet.translate(), log));
+    on_sheet.chain(on_network).collect()
 }
 
 fn count_network_run(random: &mut Random, case: &RunCase, tally: &mut Tally) {
     let own = generate::network_case(random, &case.log);
     let outcome = run_network(&own.network, &own.log);
     tally.add(format!("network run: {}", outcome_label(&outcome)));
+    if let Ok(network) = Network::read(&own.network) {
+        tally.add_all(named("network", "run", of_log(&network, &own.log)));
+    }
 }
 
 // ---- Single events ----------------------------------------------------------------------------
@@ -163,6 +195,7 @@ fn count_events(random: &mut Random, case: &RunCase, tally: &mut Tally) {
     change_sheet_state(random, change, &mut state);
     let answer = sheet.event(&state, &event.event());
     tally.add(format!("sheet event: {}", answer_label(&answer, "taken")));
+    tally.add_all(named("sheet", "event", of_steps(&sheet, &records)));
 
     let network = sheet.translate();
     let mut state = reach(&network, &records[..steps]);
@@ -170,6 +203,7 @@ fn count_events(random: &mut Random, case: &RunCase, tally: &mut Tally) {
     change_network_state(random, change, &mut state);
     let answer = network.event(&state, &event.event());
     tally.add(format!("network event: {}", answer_label(&answer, "taken")));
+    tally.add_all(named("network", "event", of_steps(&network, &records)));
 }
 
 /// The state after the records, or where the first one was refused.

@@ -5,39 +5,39 @@ mod scripts;
 use reference::engine::network_event;
 use reference::expr::Lent;
 use reference::network::{Creating, Network, LONGEST_NETWORK};
-use reference::network_cases::{self, Row};
+use reference::network_cases::{self, Page};
 use reference::network_frames::Checkers;
 use reference::run::Record;
-use reference::script::Sort;
-use reference::script_frames::{read_frames, Bench, Field, Frame};
+use reference::script::{visit, Row, Sort};
+use reference::script_frames::{read_frames, Field, Frame};
 use reference::state::{Cause, Checker, Common, NetworkState};
 use scripts::{answer, count, is_offer, is_run};
 use std::collections::{HashMap, HashSet};
 use std::sync::OnceLock;
 
 /// Made once for all tests.
-fn rows() -> &'static [Row] {
-    static ROWS: OnceLock<Vec<Row>> = OnceLock::new();
-    ROWS.get_or_init(network_cases::all)
+fn pages() -> &'static [Page] {
+    static PAGES: OnceLock<Vec<Page>> = OnceLock::new();
+    PAGES.get_or_init(network_cases::all)
 }
 
 #[test]
 fn cases_have_the_answers_written_beside_them() {
-    scripts::assert_written_answers(rows());
+    scripts::assert_written_answers(pages());
 }
 
 #[test]
 fn the_file_is_large_enough_and_small_enough() {
-    scripts::assert_files_hold::<Network>("network_cases", rows());
+    scripts::assert_files_hold::<Network>("network_cases", pages());
 }
 
 #[test]
 fn every_sort_of_case_occurs_often() {
-    let rows = rows();
-    let offers = count(rows, |row, _| is_offer(row));
+    let pages = pages();
+    let offers = count(pages, |row, _| is_offer(row));
     assert!(offers >= 900, "{offers} events");
     scripts::assert_offers_of_sorts(
-        rows,
+        pages,
         &[
             (Sort::Reached, 300),
             (Sort::Broken, 200),
@@ -50,15 +50,16 @@ fn every_sort_of_case_occurs_often() {
             (Sort::Shaken, 100),
             (Sort::Checkers, 100),
             (Sort::Nesting, 40),
+            (Sort::Wide, 1_000),
         ],
     );
-    let logs = count(rows, |row, _| is_run(row));
-    let fresh = count(rows, |row, _| row.frame == Frame::Fresh);
-    let values = count(rows, |row, _| matches!(row.frame, Frame::EntryValues(_)));
+    let logs = count(pages, |row, _| is_run(row));
+    let fresh = count(pages, |row, _| row.frame == Frame::Fresh);
+    let values = count(pages, |row, _| matches!(row.frame, Frame::EntryValues(_)));
     println!("events {offers}, logs {logs}, fresh states {fresh}, values at entry {values}");
     for number in 1..=7 {
         let refused = format!("refused {number}");
-        let found = count(rows, |row, line| {
+        let found = count(pages, |row, line| {
             row.frame == Frame::Fresh && line == refused
         });
         assert!(found >= 2, "fresh states {refused}: {found}");
@@ -71,22 +72,22 @@ fn every_sort_of_case_occurs_often() {
 #[test]
 fn every_answer_to_an_event_occurs_often() {
     let refusals: Vec<u8> = (1..=7).chain(9..=15).collect();
-    scripts::assert_answers_to_events(rows(), &refusals, 400);
+    scripts::assert_answers_to_events(pages(), &refusals, 400);
 }
 
 #[test]
 fn every_answer_to_a_log_occurs() {
-    scripts::assert_answers_to_logs(rows(), 7);
+    scripts::assert_answers_to_logs(pages(), 7);
 }
 
 #[test]
 fn every_two_refusals_meet_and_the_lowest_answers() {
-    scripts::assert_lowest_refusal_answers::<Network>(rows());
+    scripts::assert_lowest_refusal_answers::<Network>(pages());
 }
 
 #[test]
 fn refused_events_change_nothing() {
-    scripts::assert_refused_events_change_nothing::<Network>(rows());
+    scripts::assert_refused_events_change_nothing::<Network>(pages());
 }
 
 #[test]
@@ -131,8 +132,9 @@ fn frames_that_are_cut_are_no_frames() {
 
 #[test]
 fn the_greatest_network_occurs_once() {
-    let longest = |row: &&Row| matches!(&row.frame, Frame::Rules(n) if n.len() == LONGEST_NETWORK);
-    assert_eq!(rows().iter().filter(longest).count(), 1);
+    let longest =
+        |row: &&Row<Checkers>| matches!(&row.frame, Frame::Rules(n) if n.len() == LONGEST_NETWORK);
+    assert_eq!(pages().iter().flatten().filter(longest).count(), 1);
 }
 
 // ---- What the cases hold of networks ----------------------------------------------------------
@@ -149,32 +151,28 @@ struct Taken {
 
 /// Every taken event, in order.
 fn taken() -> Vec<Taken> {
-    let mut bench = Bench::<Network>::default();
     let mut all = Vec::new();
     let (mut gone, mut gone_when_saved) = (HashSet::new(), HashSet::new());
-    for row in rows() {
-        match &row.frame {
-            Frame::Fresh => gone.clear(),
-            Frame::Save => gone_when_saved = gone.clone(),
-            Frame::Restore => gone = gone_when_saved.clone(),
-            Frame::Offer { event, keep } => {
-                if let Ok(after) = network_event(&bench.rules, &bench.state, &event.event()) {
-                    all.push(Taken {
-                        network: Network::read(&bench.rules).expect("it took an event"),
-                        before: bench.state.clone(),
-                        event: event.clone(),
-                        after,
-                        again: event.kind == 0 && gone.contains(&event.call),
-                    });
-                    if *keep && event.kind == 1 {
-                        gone.insert(event.call);
-                    }
+    visit::<Network>(pages(), |bench, row| match &row.frame {
+        Frame::Fresh => gone.clear(),
+        Frame::Save => gone_when_saved = gone.clone(),
+        Frame::Restore => gone = gone_when_saved.clone(),
+        Frame::Offer { event, keep } => {
+            if let Ok(after) = network_event(&bench.rules, &bench.state, &event.event()) {
+                all.push(Taken {
+                    network: Network::read(&bench.rules).expect("it took an event"),
+                    before: bench.state.clone(),
+                    event: event.clone(),
+                    after,
+                    again: event.kind == 0 && gone.contains(&event.call),
+                });
+                if *keep && event.kind == 1 {
+                    gone.insert(event.call);
                 }
             }
-            _ => {}
         }
-        bench.carry_out(&row.frame);
-    }
+        _ => {}
+    });
     all
 }
 
@@ -534,8 +532,7 @@ const CLAUSES: [&str; 22] = [
 #[test]
 fn every_clause_of_soundness_is_broken_alone() {
     let mut alone: HashMap<&str, usize> = HashMap::new();
-    let mut bench = Bench::<Network>::default();
-    for row in rows() {
+    visit::<Network>(pages(), |bench, row| {
         if let (true, Ok(network)) = (is_offer(row), Network::read(&bench.rules)) {
             let broken = broken(&bench.state, &network);
             let refused = row.line.as_deref().map(answer) == Some("refused 9".into());
@@ -544,8 +541,7 @@ fn every_clause_of_soundness_is_broken_alone() {
                 *alone.entry(only).or_default() += 1;
             }
         }
-        bench.carry_out(&row.frame);
-    }
+    });
     println!("{alone:?}");
     for name in CLAUSES {
         let found = alone.get(name).copied().unwrap_or(0);
@@ -584,11 +580,9 @@ fn the_neighbours_of_broken_clauses_are_taken() {
 #[test]
 fn values_at_entry_are_asked_for_in_every_kind_of_state() {
     let mut found: HashMap<&str, usize> = HashMap::new();
-    let mut bench = Bench::<Network>::default();
-    for row in rows() {
-        let line = bench.carry_out(&row.frame);
-        let (Frame::EntryValues(place), Some(line)) = (&row.frame, line) else {
-            continue;
+    visit::<Network>(pages(), |bench, row| {
+        let (Frame::EntryValues(place), Some(line)) = (&row.frame, &row.line) else {
+            return;
         };
         let (state, place) = (&bench.state, usize::from(*place));
         let checker = state.checkers.get(place);
@@ -609,7 +603,7 @@ fn values_at_entry_are_asked_for_in_every_kind_of_state() {
         ] {
             *found.entry(name).or_default() += usize::from(is);
         }
-    }
+    });
     println!("{found:?}");
     assert!(found.values().all(|count| *count >= 2));
     assert!(found["some"] >= 100 && found["unsound"] >= 40);

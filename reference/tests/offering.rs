@@ -2,38 +2,38 @@
 
 mod scripts;
 
-use reference::monitor_cases::{self, Row};
+use reference::monitor_cases::{self, Page};
 use reference::monitor_frames::Arms;
 use reference::run::Record;
-use reference::script::Sort;
+use reference::script::{Row, Sort};
 use reference::script_frames::{read_frames, Field, Frame};
 use reference::sheet::{Sheet, LONGEST_SHEET};
 use scripts::{count, is_offer, is_run};
 use std::sync::OnceLock;
 
 /// Made once for all tests.
-fn rows() -> &'static [Row] {
-    static ROWS: OnceLock<Vec<Row>> = OnceLock::new();
-    ROWS.get_or_init(monitor_cases::all)
+fn pages() -> &'static [Page] {
+    static PAGES: OnceLock<Vec<Page>> = OnceLock::new();
+    PAGES.get_or_init(monitor_cases::all)
 }
 
 #[test]
 fn cases_have_the_answers_written_beside_them() {
-    scripts::assert_written_answers(rows());
+    scripts::assert_written_answers(pages());
 }
 
 #[test]
 fn the_file_is_large_enough_and_small_enough() {
-    scripts::assert_files_hold::<Sheet>("monitor_cases", rows());
+    scripts::assert_files_hold::<Sheet>("monitor_cases", pages());
 }
 
 #[test]
 fn every_sort_of_case_occurs_often() {
-    let rows = rows();
-    let offers = count(rows, |row, _| is_offer(row));
+    let pages = pages();
+    let offers = count(pages, |row, _| is_offer(row));
     assert!(offers >= 1_500, "{offers} events");
     scripts::assert_offers_of_sorts(
-        rows,
+        pages,
         &[
             (Sort::Reached, 500),
             (Sort::Broken, 200),
@@ -44,12 +44,13 @@ fn every_sort_of_case_occurs_often() {
             (Sort::Reading, 100),
             (Sort::Foreign, 90),
             (Sort::Shaken, 200),
+            (Sort::Wide, 1_000),
         ],
     );
-    let logs = count(rows, |row, _| is_run(row));
+    let logs = count(pages, |row, _| is_run(row));
     println!("events {offers}, logs {logs}");
     assert!(logs >= 100, "{logs} logs");
-    let fresh = count(rows, |row, _| row.frame == Frame::Fresh);
+    let fresh = count(pages, |row, _| row.frame == Frame::Fresh);
     println!("fresh states {fresh}");
     assert!(fresh >= 80, "{fresh} fresh states");
 }
@@ -57,22 +58,22 @@ fn every_sort_of_case_occurs_often() {
 #[test]
 fn every_answer_to_an_event_occurs_often() {
     let refusals: Vec<u8> = (1..=15).collect();
-    scripts::assert_answers_to_events(rows(), &refusals, 500);
+    scripts::assert_answers_to_events(pages(), &refusals, 500);
 }
 
 #[test]
 fn every_answer_to_a_log_occurs() {
-    scripts::assert_answers_to_logs(rows(), 8);
+    scripts::assert_answers_to_logs(pages(), 8);
 }
 
 #[test]
 fn every_two_refusals_meet_and_the_lowest_answers() {
-    scripts::assert_lowest_refusal_answers::<Sheet>(rows());
+    scripts::assert_lowest_refusal_answers::<Sheet>(pages());
 }
 
 #[test]
 fn refused_events_change_nothing() {
-    scripts::assert_refused_events_change_nothing::<Sheet>(rows());
+    scripts::assert_refused_events_change_nothing::<Sheet>(pages());
 }
 
 #[test]
@@ -116,7 +117,8 @@ fn frames_that_are_cut_are_no_frames() {
 
 #[test]
 fn the_greatest_sheet_occurs_once() {
-    let rows = rows();
-    let longest = |row: &&Row| matches!(&row.frame, Frame::Rules(s) if s.len() == LONGEST_SHEET);
-    assert_eq!(rows.iter().filter(longest).count(), 1);
+    let pages = pages();
+    let longest =
+        |row: &&Row<Arms>| matches!(&row.frame, Frame::Rules(s) if s.len() == LONGEST_SHEET);
+    assert_eq!(pages.iter().flatten().filter(longest).count(), 1);
 }

@@ -1,14 +1,15 @@
 //! What the tests of `monitor_cases` and `network_cases` share.
 
+use reference::pages::{FILLER, PAGE};
 use reference::programs;
 use reference::run::Record;
-use reference::script::{Row, Sort};
-use reference::script_frames::{read_frames, Bench, Field, Frame, Own, Rules};
+use reference::script::{visit, Page, Row, Sort};
+use reference::script_frames::{read_frames, read_page, Bench, Field, Frame, Own, Rules};
 use reference::state::Call;
 use std::collections::HashSet;
 
-pub fn assert_written_answers<O: Own>(rows: &[Row<O>]) {
-    for (number, row) in rows.iter().enumerate() {
+pub fn assert_written_answers<O: Own>(pages: &[Page<O>]) {
+    for (number, row) in pages.iter().flatten().enumerate() {
         let (Some(expected), Some(line)) = (&row.expected, &row.line) else {
             continue;
         };
@@ -20,26 +21,40 @@ pub fn assert_written_answers<O: Own>(rows: &[Row<O>]) {
     }
 }
 
-/// The files of the program are these rows and what carrying them out gives, and not too long.
-pub fn assert_files_hold<R: Rules>(name: &str, rows: &[Row<R::Own>]) {
+/// The most pages that an input has here.
+const FEW: usize = 5;
+const LONGEST_OUTPUT: usize = 1_100_000;
+
+/// The files of the program are these pages and what carrying them out gives, and not too long.
+pub fn assert_files_hold<R: Rules>(name: &str, pages: &[Page<R::Own>]) {
     let files = programs::files(name).expect("the program is in the table");
     let (stdin, stdout) = (files.stdin.len(), files.stdout.len());
     println!("stdin {stdin}, stdout {stdout}");
-    assert!(stdin <= 65_000, "{stdin} bytes");
-    assert!(stdout <= 600_000, "{stdout} bytes");
-    let frames = read_frames(&files.stdin).expect("frames fill the file");
-    assert!(frames.iter().eq(rows.iter().map(|row| &row.frame)));
+    assert!(pages.len() <= FEW && stdin <= FEW * PAGE, "{stdin} bytes");
+    assert!(stdout <= LONGEST_OUTPUT, "{stdout} bytes");
+    let written = files.stdin.chunks(PAGE);
+    assert_eq!(written.len(), pages.len());
+    let lines = written
+        .zip(pages)
+        .map(|(bytes, page)| lines_of_page::<R>(bytes, page));
+    assert_eq!(lines.collect::<String>().into_bytes(), files.stdout);
+}
+
+/// Reads a page back, which must hold these rows and then filler, and carries it out from the start.
+fn lines_of_page<R: Rules>(bytes: &[u8], page: &[Row<R::Own>]) -> String {
+    let (frames, rest) = read_page(bytes);
+    assert!(frames.iter().eq(page.iter().map(|row| &row.frame)));
+    assert!(rest.iter().all(|byte| *byte == FILLER));
     let mut bench = Bench::<R>::default();
     let lines = frames.iter().filter_map(|frame| bench.carry_out(frame));
-    let lines: String = lines.map(|line| line + "\n").collect();
-    assert_eq!(lines.into_bytes(), files.stdout);
+    lines.map(|line| line + "\n").collect()
 }
 
 // ---- Counting ---------------------------------------------------------------------------------
 
-pub fn count<O>(rows: &[Row<O>], wanted: impl Fn(&Row<O>, &str) -> bool) -> usize {
+pub fn count<O>(pages: &[Page<O>], wanted: impl Fn(&Row<O>, &str) -> bool) -> usize {
     let matching = |row: &&Row<O>| row.line.as_deref().is_some_and(|line| wanted(row, line));
-    rows.iter().filter(matching).count()
+    pages.iter().flatten().filter(matching).count()
 }
 
 pub fn is_offer<O>(row: &Row<O>) -> bool {
@@ -57,17 +72,17 @@ pub fn answer(line: &str) -> String {
     words.join(" ")
 }
 
-pub fn assert_offers_of_sorts<O>(rows: &[Row<O>], sorts: &[(Sort, usize)]) {
+pub fn assert_offers_of_sorts<O>(pages: &[Page<O>], sorts: &[(Sort, usize)]) {
     for (sort, least) in sorts {
-        let found = count(rows, |row, _| row.sort == *sort && is_offer(row));
+        let found = count(pages, |row, _| row.sort == *sort && is_offer(row));
         println!("{sort:?}: {found}");
         assert!(found >= *least, "{sort:?}: {found}");
     }
 }
 
 /// Each refusal at least ten times, and each cause of a verdict at least twelve.
-pub fn assert_answers_to_events<O>(rows: &[Row<O>], refusals: &[u8], least_taken: usize) {
-    let offers = |wanted: &str| count(rows, |row, line| is_offer(row) && answer(line) == wanted);
+pub fn assert_answers_to_events<O>(pages: &[Page<O>], refusals: &[u8], least_taken: usize) {
+    let offers = |wanted: &str| count(pages, |row, line| is_offer(row) && answer(line) == wanted);
     for number in refusals {
         let wanted = format!("refused {number}");
         let found = offers(&wanted);
@@ -77,25 +92,25 @@ pub fn assert_answers_to_events<O>(rows: &[Row<O>], refusals: &[u8], least_taken
     let taken = offers("taken");
     println!("taken: {taken}");
     assert!(taken >= least_taken, "taken: {taken}");
-    for (number, cause) in causes(rows, is_offer).into_iter().enumerate() {
+    for (number, cause) in causes(pages, is_offer).into_iter().enumerate() {
         assert!(cause >= 12, "cause {number}: {cause}");
     }
 }
 
 /// How many verdicts are complete by a bad state, a triple and both.
-fn causes<O>(rows: &[Row<O>], of: impl Fn(&Row<O>) -> bool) -> [usize; 3] {
+fn causes<O>(pages: &[Page<O>], of: impl Fn(&Row<O>) -> bool) -> [usize; 3] {
     let complete = |row: &Row<O>, line: &str| {
         let answered = line.starts_with("taken") || line.starts_with("violated");
         of(row) && answered && line.contains("violated")
     };
     let found = [
-        count(rows, |row, line| {
+        count(pages, |row, line| {
             complete(row, line) && line.ends_with("triple -")
         }),
-        count(rows, |row, line| {
+        count(pages, |row, line| {
             complete(row, line) && line.contains("state -")
         }),
-        count(rows, |row, line| {
+        count(pages, |row, line| {
             complete(row, line) && !line.ends_with("triple -") && !line.contains("state -")
         }),
     ];
@@ -104,8 +119,9 @@ fn causes<O>(rows: &[Row<O>], of: impl Fn(&Row<O>) -> bool) -> [usize; 3] {
 }
 
 /// Each answer to a log; the reading refusals are 1 to `reading`.
-pub fn assert_answers_to_logs<O>(rows: &[Row<O>], reading: u8) {
-    let runs = |wanted: &dyn Fn(&str) -> bool| count(rows, |row, line| is_run(row) && wanted(line));
+pub fn assert_answers_to_logs<O>(pages: &[Page<O>], reading: u8) {
+    let runs =
+        |wanted: &dyn Fn(&str) -> bool| count(pages, |row, line| is_run(row) && wanted(line));
     for number in (1..=reading).chain(16..=18) {
         let found = runs(&|line| line == format!("refused {number}"));
         println!("refused {number}: {found}");
@@ -119,7 +135,7 @@ pub fn assert_answers_to_logs<O>(rows: &[Row<O>], reading: u8) {
     let clean = runs(&|line| line.starts_with("clean"));
     println!("clean: {clean}");
     assert!(clean >= 20, "clean: {clean}");
-    for (number, cause) in causes(rows, is_run).into_iter().enumerate() {
+    for (number, cause) in causes(pages, is_run).into_iter().enumerate() {
         assert!(cause >= 5, "cause {number}: {cause}");
     }
 }
@@ -157,13 +173,12 @@ fn met<R: Rules>(bench: &Bench<R>, event: &Record) -> Vec<u8> {
         .collect()
 }
 
-pub fn assert_lowest_refusal_answers<R: Rules>(rows: &[Row<R::Own>]) {
+pub fn assert_lowest_refusal_answers<R: Rules>(pages: &[Page<R::Own>]) {
     let mut pairs = HashSet::new();
     let mut alone = HashSet::new();
-    let mut bench = Bench::<R>::default();
-    for row in rows {
+    visit::<R>(pages, |bench, row| {
         if let (Sort::Together, Frame::Offer { event, .. }) = (row.sort, &row.frame) {
-            let met = met(&bench, event);
+            let met = met(bench, event);
             let expected = met
                 .first()
                 .map_or("taken".into(), |n| format!("refused {n}"));
@@ -173,8 +188,7 @@ pub fn assert_lowest_refusal_answers<R: Rules>(rows: &[Row<R::Own>]) {
                 alone.insert(only);
             }
         }
-        bench.carry_out(&row.frame);
-    }
+    });
     for a in 9..=15 {
         assert!(alone.contains(&a), "{a} alone");
         // An entry is no exit.
@@ -185,16 +199,15 @@ pub fn assert_lowest_refusal_answers<R: Rules>(rows: &[Row<R::Own>]) {
 }
 
 /// A refused event gives back the state that went in.
-pub fn assert_refused_events_change_nothing<R: Rules>(rows: &[Row<R::Own>]) {
-    let mut bench = Bench::<R>::default();
-    for row in rows {
-        let before = bench.state.clone();
-        let line = bench.carry_out(&row.frame);
+pub fn assert_refused_events_change_nothing<R: Rules + Clone>(pages: &[Page<R::Own>]) {
+    visit::<R>(pages, |bench, row| {
+        let mut after = bench.clone();
+        let line = after.carry_out(&row.frame);
         assert_eq!(line, row.line);
         if is_offer(row) && line.is_some_and(|line| line.starts_with("refused")) {
-            assert_eq!(bench.state, before);
+            assert_eq!(after.state, bench.state);
         }
-    }
+    });
 }
 
 // ---- Frames -----------------------------------------------------------------------------------
