@@ -79,8 +79,8 @@ fn cases_writes_what_it_checks() {
         fs::remove_file(&path).unwrap();
         assert_one_line_and_failure(&run(CASES, &["--check", text]));
         fs::write(&path, &good).unwrap();
-        assert!(run(CASES, &["--check", text]).status.success());
     }
+    assert!(run(CASES, &["--check", text]).status.success());
 }
 
 /// The files of every program, below `crates/`.
