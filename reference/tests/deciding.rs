@@ -10,7 +10,7 @@ use reference::program::split;
 use reference::run::write_log;
 use reference::script::{entry, exit};
 use reference::sheet::Sheet;
-use reference::tally::{of_input, Tally};
+use reference::tally::{of_input, wanted, Tally};
 use reference::{monitor_cases, network_cases, program_cases};
 
 fn assert_none_missing(tally: &Tally, wanted: impl Iterator<Item = String>) {
@@ -79,4 +79,61 @@ fn what_makes_no_difference_is_not_counted() {
     sheet.front.monitor = 3;
     sheet.front.initial.pop();
     assert!(of_call(&sheet, 5, 5).concat().is_empty());
+}
+
+/// The generator and what is wanted share the orders and the units, so these are written down here.
+const ORDERS: [&str; 24] = [
+    "0 1 2 3", "0 1 3 2", "0 2 1 3", "0 2 3 1", "0 3 1 2", "0 3 2 1", "1 0 2 3", "1 0 3 2",
+    "1 2 0 3", "1 2 3 0", "1 3 0 2", "1 3 2 0", "2 0 1 3", "2 0 3 1", "2 1 0 3", "2 1 3 0",
+    "2 3 0 1", "2 3 1 0", "3 0 1 2", "3 0 2 1", "3 1 0 2", "3 1 2 0", "3 2 0 1", "3 2 1 0",
+];
+const OF_BOTH: [&str; 20] = [
+    "the last program value decides",
+    "the last value at entry decides",
+    "the last variable decides",
+    "an entry's high byte decides",
+    "an entry's low byte decides",
+    "an exit's high byte decides",
+    "an exit's low byte decides",
+    "whether a unit is below 8 decides",
+    "a triple of unit 8 broken",
+    "a triple of unit 9 broken",
+    "a triple of unit 10 broken",
+    "a triple of unit 11 broken",
+    "a triple of unit 12 broken",
+    "a triple of unit 13 broken",
+    "a triple of unit 14 broken",
+    "a triple of unit 15 broken",
+    "refused 15 by the high byte",
+    "refused 13 behind another high byte",
+    "refused 15 by the low byte",
+    "refused 13 behind another low byte",
+];
+const OF_EVENTS: [&str; 7] = [
+    "the last program value decides the state",
+    "the last program value decides a variable",
+    "the last program value decides what is armed",
+    "the last program value decides the triple",
+    "the last value at entry decides the triple",
+    "the last variable decides the state",
+    "the last variable decides a variable",
+];
+
+#[test]
+fn all_of_it_is_wanted() {
+    let orders = ORDERS.map(|order| format!("four calls left in the order {order}"));
+    let both = OF_BOTH.map(String::from);
+    assert_eq!(wanted_orders(), orders);
+    assert_eq!(wanted_of_runs(), [&both[..], &orders].concat());
+    let events = wanted_of_events();
+    assert_eq!(events[..both.len()], both);
+    for part in OF_EVENTS {
+        assert!(events.iter().any(|label| label == part), "{part}");
+    }
+    let tallied = wanted();
+    for engine in ["sheet", "network"] {
+        let runs = named(engine, "run", wanted_of_runs());
+        let all = runs.chain(named(engine, "event", wanted_of_events()));
+        assert!(all.into_iter().all(|label| tallied.contains(&label)));
+    }
 }
