@@ -1,5 +1,6 @@
 /*
- * WATCH for programs in C: runs a log of calls on a sheet of rules, and on the sheet's network.
+ * WATCH for programs in C: runs a log of calls on a sheet of rules, and on the sheet's network, which
+ * it writes in either of its two forms.
  *
  * The functions are those of crates/embed, proved to answer as document 01 says for all bytes. Link
  * target/staticlib/libembed.a, which `rt staticlib embed` makes, for x86-64 Linux. They keep nothing
@@ -10,8 +11,10 @@
  *    where that number is 0. All the bytes are there; those of `out` may be written.
  *  - What a function writes to (out, size, first, second, third) overlaps nothing else that the call
  *    is given, and nobody else reads or writes it during the call.
+ *  - There are 64 KiB of stack. At most 54 KB were used, to run a network of version 3 with a condition
+ *    that is `and` 511 deep; without version 3 at most 26 KB.
  *
- * Refusals are numbers from 1 to 19: the table "Refusals" in README.md at the top of the repository.
+ * Refusals are numbers from 1 to 21: the table "Refusals" in README.md at the top of the repository.
  */
 #ifndef WATCH_H
 #define WATCH_H
@@ -34,6 +37,9 @@ extern "C" {
 
 /* A buffer of this many bytes holds the network of any accepted sheet. */
 #define WATCH_MOST_NETWORK 8192
+
+/* A buffer of this many bytes holds the network for the card of any sheet that has one. */
+#define WATCH_MOST_CARD 65535
 
 /* A buffer of this many bytes holds any two lines. */
 #define WATCH_MOST_LINES 300
@@ -58,10 +64,11 @@ uint32_t watch_run(const uint8_t *sheet, size_t sheet_length, const uint8_t *log
                    uint32_t *first, uint32_t *second, uint32_t *third);
 
 /*
- * The same on a network, as watch_translate writes it, cut to its length: a network's template stands
- * for the triple of its number.
+ * The same on a network, as watch_translate or watch_translate_card writes it, cut to its length: a
+ * network's template stands for the triple of its number.
  *
- *   network, network_length   the network's bytes: at most 7,904 are accepted
+ *   network, network_length   the network's bytes: at most 7,904 are accepted of version 2, at most
+ *                             65,535 of version 3
  *   the others                as for watch_run
  *
  * returns as watch_run does, with the refusals of a network.
@@ -81,6 +88,20 @@ uint32_t watch_run_network(const uint8_t *network, size_t network_length, const 
  */
 uint32_t watch_translate(const uint8_t *sheet, size_t sheet_length, uint8_t *out, size_t out_length,
                          size_t *size);
+
+/*
+ * Translates a sheet into its network for the conflict monitor card, version 3: whatever the values,
+ * at most one of the transitions of a state, kind and unit has a condition that holds, so that the card
+ * may try them in any order. A log's run on it comes to the same as on the sheet.
+ *
+ *   sheet, sheet_length, size   as for watch_translate
+ *   out, out_length             where the network is to go: WATCH_MOST_CARD bytes are always enough
+ *
+ * returns as watch_translate does; besides 1 to 8 and 19 there is, before 19, 21: a joined condition
+ * would have over 1,024 bytes, or the network over 65,535.
+ */
+uint32_t watch_translate_card(const uint8_t *sheet, size_t sheet_length, uint8_t *out,
+                              size_t out_length, size_t *size);
 
 /*
  * Writes what the program `watch` prints for an input: a line for the run on the sheet and a line for

@@ -261,63 +261,74 @@ fn lengths(rows: &mut Rows) {
     }
     let long_value = op(22, &[&nots(58, TRUE), P0, M0]);
     rows.value(&long_value, ONE, 11);
-    // Too long by one; and lengths that would fall within 1-64 if only their low byte were kept.
-    for length in [65, 66, 128, 255, 256, 257, 320] {
-        let bytes = nots(length - 1, TRUE);
-        rows.add(Kind::Condition, &bytes, NOTHING, REFUSED_4);
-    }
-    for length in [65, 257] {
-        rows.add(
-            Kind::JudgeCondition,
-            &nots(length - 1, TRUE),
-            NOTHING,
-            "000",
-        );
-    }
-    rows.add(Kind::Condition, &[0; 257], NOTHING, REFUSED_4);
-    let mut long = number(7);
-    long.resize(261, 0);
-    rows.add(Kind::Value, &long, NOTHING, REFUSED_4);
-    rows.add(
-        Kind::Value,
-        &op(22, &[&nots(59, TRUE), P0, M0]),
-        ONE,
-        REFUSED_4,
-    );
-    rows.add(Kind::Condition, &[255; 65], NOTHING, REFUSED_4);
     rows.no_condition(&[1; 64], NOTHING);
     rows.no_condition(&[0; 64], NOTHING);
+    rows.no_condition(&[0; 257], NOTHING);
+    rows.no_condition(&[255; 65], NOTHING);
+    let mut trailing = number(7);
+    trailing.resize(261, 0);
+    rows.no_value(&trailing, NOTHING);
+    long_lengths(rows);
 }
 
-/// `count` times `operator` nested in its first operand.
+/// The length at which a condition or value is refused 4 is 1,025. Some have low bytes that would
+/// be refused, or taken, if they alone were kept.
+fn long_lengths(rows: &mut Rows) {
+    for length in [64, 65, 66, 128, 255, 256, 257, 320, 1_023, 1_024] {
+        let condition = nots(length - 1, TRUE);
+        rows.condition(&condition, NOTHING, length % 2 == 1);
+        rows.add(Kind::JudgeCondition, &condition, NOTHING, "100");
+        let value = op(22, &[&nots(length - 6, TRUE), P0, M0]);
+        rows.value(&value, ONE, [11, 22][length % 2]);
+    }
+    for length in [1_025, 1_026, 1_088, 1_280, 2_048] {
+        let condition = nots(length - 1, TRUE);
+        rows.add(Kind::Condition, &condition, NOTHING, REFUSED_4);
+        rows.add(Kind::JudgeCondition, &condition, NOTHING, "000");
+        let value = op(22, &[&nots(length - 6, TRUE), P0, M0]);
+        rows.add(Kind::Value, &value, ONE, REFUSED_4);
+    }
+    // 4 comes before 5.
+    rows.add(Kind::Condition, &[255; 1_025], NOTHING, REFUSED_4);
+    rows.add(Kind::Value, &[255; 1_025], NOTHING, REFUSED_4);
+}
+
+/// `count` times `operator` nested in its first operand; the last operand is another.
+fn left_to(operator: u8, count: usize, leaf: &[u8], last: &[u8]) -> Vec<u8> {
+    joined(&[&vec![operator; count], &leaf.repeat(count), last])
+}
+
+/// `count` times `operator` nested in its second operand; the last operand is another.
+fn right_to(operator: u8, count: usize, leaf: &[u8], last: &[u8]) -> Vec<u8> {
+    joined(&[&op(operator, &[leaf]).repeat(count), last])
+}
+
 fn left_deep(operator: u8, count: usize, leaf: &[u8]) -> Vec<u8> {
-    let mut bytes = vec![operator; count];
-    for _ in 0..=count {
-        bytes.extend_from_slice(leaf);
-    }
-    bytes
+    left_to(operator, count, leaf, leaf)
 }
 
-/// `count` times `operator` nested in its second operand.
 fn right_deep(operator: u8, count: usize, leaf: &[u8]) -> Vec<u8> {
-    let mut bytes = op(operator, &[leaf]).repeat(count);
-    bytes.extend_from_slice(leaf);
-    bytes
+    right_to(operator, count, leaf, leaf)
 }
 
-/// `choose` nested in its first value (taken), and in its second (taken).
-fn deep_choices(levels: usize) -> [Vec<u8>; 2] {
-    let (mut first, mut second) = (E0.to_vec(), E0.to_vec());
-    for _ in 0..levels {
-        first = op(22, &[TRUE, &first, P0]);
-        second = op(22, &[FALSE, P0, &second]);
-    }
-    [first, second]
+/// `choose` nested in its first value (taken).
+fn deep_first(levels: usize, inner: &[u8]) -> Vec<u8> {
+    (0..levels).fold(inner.to_vec(), |value, _| op(22, &[TRUE, &value, P0]))
+}
+
+/// `choose` nested in its second value (taken).
+fn deep_second(levels: usize, inner: &[u8]) -> Vec<u8> {
+    joined(&[&op(22, &[FALSE, P0]).repeat(levels), inner])
 }
 
 /// Conditions and values in turn: less(choose(less(choose(..., P0, M0), P0), ...
 fn in_turn(levels: usize) -> Vec<u8> {
-    let mut bytes = TRUE.to_vec();
+    in_turn_from(levels, TRUE)
+}
+
+/// Each level holds where the one within it does: then 11 is chosen, and otherwise 22.
+fn in_turn_from(levels: usize, inner: &[u8]) -> Vec<u8> {
+    let mut bytes = inner.to_vec();
     for _ in 0..levels {
         let chosen = op(22, &[&bytes, P0, M0]);
         bytes = op(4, &[&chosen, M0]);
@@ -333,23 +344,18 @@ fn depth(rows: &mut Rows) {
         ] {
             rows.condition(&bytes, NOTHING, true);
             rows.condition(&op(1, &[&bytes]), NOTHING, false);
-            rows.add(
-                Kind::Condition,
-                &op(1, &[&op(1, &[&bytes])]),
-                NOTHING,
-                REFUSED_4,
-            );
+            rows.condition(&nots(2, &bytes), NOTHING, true);
         }
     }
     for bytes in [left_deep(20, 20, P0), right_deep(20, 20, P0)] {
         rows.value(&bytes, ONE, 21 * 11);
-        rows.add(Kind::Value, &op(20, &[&bytes, P0]), ONE, REFUSED_4);
+        rows.value(&op(20, &[&bytes, P0]), ONE, 22 * 11);
     }
     // ((11 - 11) - 11) - ..., and 11 - (11 - (11 - ...)).
     rows.value(&left_deep(21, 20, P0), ONE, -19 * 11);
     rows.value(&right_deep(21, 20, P0), ONE, 11);
     rows.value(&right_deep(21, 19, P0), ONE, 0);
-    for bytes in deep_choices(12) {
+    for bytes in [deep_first(12, E0), deep_second(12, E0)] {
         rows.value(&bytes, ONE, 33);
         rows.no_value(&bytes[..bytes.len() - 1], ONE);
         rows.add(Kind::Action, &op(0, &[&bytes]), ONE, "done 33");
@@ -364,8 +370,108 @@ fn depth(rows: &mut Rows) {
     }
     let deepest = nots(7, &in_turn(7));
     rows.condition(&deepest, ONE, false);
-    rows.add(Kind::Condition, &nots(8, &in_turn(7)), ONE, REFUSED_4);
+    rows.condition(&nots(8, &in_turn(7)), ONE, true);
     rows.no_condition(&deepest[..63], ONE);
+}
+
+/// Chooses by its last few bytes: the present value where `not` comes an even number of times, and
+/// otherwise the one at entry.
+fn ending(count: usize) -> Vec<u8> {
+    op(22, &[&nots(count, TRUE), P0, E0])
+}
+
+/// Conditions of 1,022 to 1,025 bytes, nested as deep as these allow, that the last bytes decide.
+fn full_conditions(rows: &mut Rows) {
+    for to in [left_to, right_to] {
+        for (count, holds) in [(0, true), (1, false)] {
+            rows.condition(&to(2, 511, TRUE, &nots(count, TRUE)), NOTHING, holds);
+        }
+        let over = to(2, 511, TRUE, &nots(2, TRUE));
+        rows.add(Kind::Condition, &over, NOTHING, REFUSED_4);
+        rows.condition(&to(3, 341, FALSE, TRUE), NOTHING, true);
+        let over = to(3, 341, FALSE, FALSE);
+        rows.add(Kind::Condition, &over, NOTHING, REFUSED_4);
+        for (count, holds) in [(1, false), (2, true), (3, false)] {
+            rows.condition(&to(3, 340, FALSE, &nots(count, TRUE)), NOTHING, holds);
+        }
+    }
+    for (count, holds) in [(5, false), (6, true), (7, false)] {
+        let bytes = in_turn_from(127, &nots(count, TRUE));
+        rows.condition(&bytes, ONE, holds);
+        rows.add(Kind::JudgeCondition, &bytes, ONE, "101");
+    }
+    let over = in_turn_from(127, &nots(8, TRUE));
+    rows.add(Kind::Condition, &over, ONE, REFUSED_4);
+    // What stands in the last bytes alone.
+    for (last, holds, expected) in [(P0, true, "100"), (E0, false, "110"), (M0, false, "101")] {
+        let bytes = nots(1_018, &op(5, &[P0, last]));
+        rows.condition(&bytes, ONE, holds);
+        rows.add(Kind::JudgeCondition, &bytes, ONE, expected);
+        rows.condition(&nots(1_019, &op(5, &[P0, last])), ONE, !holds);
+    }
+}
+
+/// Values of 1,022 to 1,025 bytes, nested as deep as these allow, that the last bytes decide.
+fn full_values(rows: &mut Rows) {
+    let last = [11, 33];
+    for (count, last) in last.into_iter().enumerate() {
+        let end = ending(count);
+        for to in [left_to, right_to] {
+            rows.value(&to(20, 339, P0, &end), ONE, 339 * 11 + last);
+        }
+        // 11 - 338 times 11, and then the last; 11 - (11 - (11 - ... last)).
+        rows.value(&left_to(21, 339, P0, &end), ONE, 11 - 338 * 11 - last);
+        rows.value(&right_to(21, 339, P0, &end), ONE, 11 - last);
+    }
+    for to in [left_to, right_to] {
+        let over = to(20, 339, P0, &ending(2));
+        rows.add(Kind::Value, &over, ONE, REFUSED_4);
+    }
+    for (count, value) in [(0, 11), (1, 33), (2, 11)] {
+        rows.value(&deep_first(254, &ending(count)), ONE, value);
+        rows.value(&deep_second(203, &ending(count + 1)), ONE, 44 - value);
+    }
+    for over in [deep_first(254, &ending(3)), deep_second(203, &ending(4))] {
+        rows.add(Kind::Value, &over, ONE, REFUSED_4);
+    }
+}
+
+/// Bytes of over 64 and up to 1,024 that are not exactly one: the fault is at the end, or in front.
+fn long_malformed(rows: &mut Rows) {
+    for length in [65, 255, 256, 257, 1_023, 1_024] {
+        rows.no_condition(&vec![1; length], ONE);
+        rows.no_condition(&vec![2; length], ONE);
+        for end in [&[7][..], &[0, 0], &[5, 17, 0, 17, 1], &[4, 17, 0], &[17, 0]] {
+            rows.no_condition(&nots(length - end.len(), end), ONE);
+        }
+        let behind = |front: &[u8]| joined(&[front, &nots(length - front.len() - 1, TRUE)]);
+        for front in [&[7][..], &[0], &[17], &[4]] {
+            rows.no_condition(&behind(front), ONE);
+        }
+        rows.no_value(&vec![20; length], ONE);
+        rows.no_value(&op(22, &[&nots(length - 5, TRUE), P0, &[17]]), ONE);
+        rows.no_value(&op(22, &[&nots(length - 7, TRUE), P0, M0, &[0]]), ONE);
+        rows.no_value(&op(22, &[&nots(length - 6, TRUE), P0, P1]), ONE);
+    }
+    // A part that evaluation does not reach.
+    for end in [&[7][..], &[5, 17, 0, 17, 1], &[]] {
+        let bytes = op(2, &[FALSE, &nots(1_000, end)]);
+        rows.no_condition(&bytes, ONE);
+        rows.no_condition(&op(3, &[TRUE, &nots(1_000, end)]), ONE);
+    }
+}
+
+/// An action keeps to 64 bytes, whatever stands in it.
+fn long_actions(rows: &mut Rows) {
+    for length in [64, 65, 255, 256, 257, 1_023, 1_024, 1_025] {
+        let action = op(0, &[&op(22, &[&nots(length - 7, TRUE), P0, M0])]);
+        let (done, judged) = match length {
+            64 => ("done 22", "10"),
+            _ => (REFUSED_4, "00"),
+        };
+        rows.add(Kind::Action, &action, ONE, done);
+        rows.add(Kind::JudgeAction, &action, ONE, judged);
+    }
 }
 
 /// Every strict prefix of a well formed expression, and one byte too many.
@@ -689,6 +795,10 @@ pub fn chosen() -> Vec<Row> {
         actions,
         bad_actions,
         action_lengths,
+        full_conditions,
+        full_values,
+        long_malformed,
+        long_actions,
     ] {
         add(&mut rows);
     }
@@ -700,8 +810,11 @@ pub fn chosen() -> Vec<Row> {
 const SEED: u64 = 0x5741_5443_4801;
 const WELL_FORMED: usize = 280;
 const DAMAGED: usize = 180;
+/// Conditions and values of over 64 bytes, and as many again that are damaged.
+const LONG: usize = 40;
 
-fn random_frame(random: &mut Random) -> Frame {
+/// Of a length that `rooms` bound.
+fn random_frame(random: &mut Random, rooms: &[usize]) -> Frame {
     let kind = Kind::ALL[random.below(5)];
     let counts = Counts {
         program: random.between(0, 3),
@@ -713,7 +826,7 @@ fn random_frame(random: &mut Random) -> Frame {
         monitor: true,
         at_entry: true,
     };
-    let room = random.pick(&[8, 16, 24, 32, 64]);
+    let room = random.pick(rooms);
     let expression = match kind {
         Kind::Condition | Kind::JudgeCondition => {
             random_expr::condition(random, room, &taste).bytes()
@@ -730,17 +843,38 @@ fn random_frame(random: &mut Random) -> Frame {
     }
 }
 
+fn damaged(random: &mut Random, mut frame: Frame) -> Frame {
+    for _ in 0..random.between(1, 3) {
+        random_expr::damage(random, &mut frame.expression);
+    }
+    frame
+}
+
+/// A condition or value of over 64 bytes.
+fn long_frame(random: &mut Random) -> Frame {
+    loop {
+        let frame = random_frame(random, &[250, 500, 1_024]);
+        let acts = matches!(frame.kind, Kind::Action | Kind::JudgeAction);
+        if !acts && frame.expression.len() > 64 {
+            return frame;
+        }
+    }
+}
+
 fn random_rows() -> Vec<Row> {
-    let mut random = Random::new(SEED);
+    const ROOMS: [usize; 5] = [8, 16, 24, 32, 64];
+    let random = &mut Random::new(SEED);
     let mut frames: Vec<Frame> = (0..WELL_FORMED)
-        .map(|_| random_frame(&mut random))
+        .map(|_| random_frame(random, &ROOMS))
         .collect();
     for _ in 0..DAMAGED {
-        let mut frame = random_frame(&mut random);
-        for _ in 0..random.between(1, 3) {
-            random_expr::damage(&mut random, &mut frame.expression);
-        }
-        frames.push(frame);
+        let frame = random_frame(random, &ROOMS);
+        frames.push(damaged(random, frame));
+    }
+    for _ in 0..LONG {
+        frames.push(long_frame(random));
+        let frame = long_frame(random);
+        frames.push(damaged(random, frame));
     }
     let row = |frame| Row {
         frame,

@@ -17,6 +17,8 @@ pub struct Front {
     pub initial: Vec<i32>,
     pub conditions: Vec<Vec<u8>>,
     pub actions: Vec<Vec<u8>>,
+    /// Whether the conditions' lengths take two bytes, whatever the version says.
+    pub wide: bool,
 }
 
 impl Front {
@@ -43,17 +45,28 @@ impl Front {
         for value in &self.initial {
             out.extend(value.to_be_bytes());
         }
-        for bytes in self.conditions.iter().chain(&self.actions) {
-            write_counted(bytes, &mut out);
+        for bytes in &self.conditions {
+            write_counted(bytes, self.width(), &mut out);
+        }
+        for bytes in &self.actions {
+            write_counted(bytes, 1, &mut out);
         }
         out
     }
 
+    /// How many bytes a condition's length takes.
+    fn width(&self) -> usize {
+        1 + usize::from(self.wide)
+    }
+
     /// How many bytes stand before the transitions.
     fn length(&self) -> usize {
-        let expressions = self.conditions.iter().chain(&self.actions);
-        let counted = expressions.map(|bytes| 1 + bytes.len());
-        HEADER_LENGTH + 4 * self.initial.len() + counted.sum::<usize>()
+        let conditions = self
+            .conditions
+            .iter()
+            .map(|bytes| self.width() + bytes.len());
+        let actions = self.actions.iter().map(|bytes| 1 + bytes.len());
+        HEADER_LENGTH + 4 * self.initial.len() + conditions.chain(actions).sum::<usize>()
     }
 
     /// Adds a condition and gives its number.
@@ -140,6 +153,12 @@ impl NetworkDraft {
             front: Front::new(2, states, units, program, initial),
             ..NetworkDraft::default()
         }
+    }
+
+    /// The same tables, written as version 3.
+    pub fn in_version_3(mut self) -> NetworkDraft {
+        (self.front.version, self.front.wide) = (3, true);
+        self
     }
 
     /// Adds a transition: its six bytes and its pairs.

@@ -2,8 +2,10 @@
 
 use crate::refusal::Refusal;
 
-/// The longest condition or action, in bytes.
+/// The longest action, and the longest condition of a sheet or a version 2 network, in bytes.
 pub const LONGEST: usize = 64;
+/// The longest condition of a version 3 network, and the longest condition or value on its own.
+pub const LONGEST_ALONE: usize = 1_024;
 
 #[derive(Clone, Debug, PartialEq, Eq)]
 pub enum Condition {
@@ -188,7 +190,7 @@ impl Action {
 // ---- Reading ----------------------------------------------------------------------------------
 
 /// Reads operator-first bytes. `None` means that they break the grammar or the counts.
-/// Each call takes at least one byte, so 64 bytes bound the depth.
+/// Each call takes at least one byte, so the length bounds the depth.
 struct Reader<'a> {
     rest: &'a [u8],
     counts: Counts,
@@ -275,30 +277,29 @@ impl Reader<'_> {
 
 /// Exactly one condition: 4 by length, then 5.
 pub fn read_condition(bytes: &[u8], counts: Counts) -> Result<Condition, Refusal> {
-    if bytes.is_empty() || bytes.len() > LONGEST {
-        return Err(Refusal::Tables);
-    }
-    let mut reader = Reader {
-        rest: bytes,
-        counts,
-    };
-    let condition = reader.condition().ok_or(Refusal::Grammar)?;
-    reader.end().ok_or(Refusal::Grammar)?;
-    Ok(condition)
+    read_alone(bytes, counts, Reader::condition)
 }
 
 /// Exactly one value: 4 by length, then 5.
 pub fn read_value(bytes: &[u8], counts: Counts) -> Result<Value, Refusal> {
-    if bytes.is_empty() || bytes.len() > LONGEST {
+    read_alone(bytes, counts, Reader::value)
+}
+
+fn read_alone<'a, T>(
+    bytes: &'a [u8],
+    counts: Counts,
+    read: fn(&mut Reader<'a>) -> Option<T>,
+) -> Result<T, Refusal> {
+    if bytes.is_empty() || bytes.len() > LONGEST_ALONE {
         return Err(Refusal::Tables);
     }
     let mut reader = Reader {
         rest: bytes,
         counts,
     };
-    let value = reader.value().ok_or(Refusal::Grammar)?;
+    let whole = read(&mut reader).ok_or(Refusal::Grammar)?;
     reader.end().ok_or(Refusal::Grammar)?;
-    Ok(value)
+    Ok(whole)
 }
 
 /// Exactly a run of assignments, possibly none: 4 by length, then 5.

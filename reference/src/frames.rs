@@ -1,6 +1,7 @@
 //! The frames of `condition_cases`: one expression with the values lent to it. See CASES.md.
 
 use crate::expr::{self, Counts, Lent};
+use crate::pages;
 
 #[derive(Clone, Copy, Debug, PartialEq, Eq)]
 pub enum Kind {
@@ -108,19 +109,9 @@ fn judge_action(bytes: &[u8], counts: Counts) -> String {
     }
 }
 
-/// Reads one after the other to the end of the bytes; `None` where they do not fill it exactly.
-pub(crate) fn read_all<T>(bytes: &[u8], read: fn(&mut &[u8]) -> Option<T>) -> Option<Vec<T>> {
-    let mut rest = bytes;
-    let mut all = Vec::new();
-    while !rest.is_empty() {
-        all.push(read(&mut rest)?);
-    }
-    Some(all)
-}
-
-/// Reads frames to the end of the bytes; `None` where they do not fill it exactly.
+/// Reads the frames of all pages; `None` where something else stands in one.
 pub fn read_frames(bytes: &[u8]) -> Option<Vec<Frame>> {
-    read_all(bytes, read_frame)
+    pages::read(bytes, read_frame)
 }
 
 fn read_frame(rest: &mut &[u8]) -> Option<Frame> {

@@ -1,7 +1,7 @@
 //! Random sheets, networks, logs and states from a seed: sound ones, and ones broken on purpose.
 
 use crate::draft::{NetworkDraft, SheetDraft};
-use crate::expr::{Action, Condition, Counts, Value, LONGEST};
+use crate::expr::{Action, Condition, Counts, Value, LONGEST, LONGEST_ALONE};
 use crate::machine::Kind;
 use crate::network::Network;
 use crate::random::Random;
@@ -262,6 +262,30 @@ fn any_pairs(
     }
     let pair = |random: &mut Random| [random.pick(preconditions), random.pick(&fitting)];
     (0..random.between(0, 4)).map(|_| pair(random)).collect()
+}
+
+/// The network in version 2 or in version 3.
+fn in_any_version(random: &mut Random, draft: NetworkDraft) -> NetworkDraft {
+    match random.below(2) {
+        0 => draft,
+        _ => lengthened(random, draft),
+    }
+}
+
+/// The network in version 3, some of its conditions longer than version 2 allows: behind `and true`,
+/// `or false` or `not not`, which leave their meaning as it is.
+pub fn lengthened(random: &mut Random, draft: NetworkDraft) -> NetworkDraft {
+    const FRONTS: [&[u8]; 3] = [&[2, 0], &[3, 1, 0], &[1, 1]];
+    let mut draft = draft.in_version_3();
+    for condition in &mut draft.front.conditions {
+        if random.chance(1, 3) {
+            let longest = random.pick(&[66, 80, 255, 256, 257, 300, LONGEST_ALONE]);
+            let front = random.pick(&FRONTS);
+            let times = longest.saturating_sub(condition.len()) / front.len();
+            condition.splice(..0, front.repeat(times));
+        }
+    }
+    draft
 }
 
 // ---- Logs -------------------------------------------------------------------------------------
@@ -660,13 +684,33 @@ fn any_length(random: &mut Random, most: usize) -> usize {
 
 /// One case in this many is a wide one.
 const WIDE: usize = 8;
+/// One of the others in this many has many rivals.
+const RIVALS: usize = 12;
 
 /// A sheet and a log of any sort.
 pub fn run_case(random: &mut Random) -> RunCase {
     if random.chance(1, WIDE) {
         return wide_case(random);
     }
+    if random.chance(1, RIVALS) {
+        let draft = sheet_of_rivals(random);
+        return case_of(random, &draft);
+    }
     usual_case(random)
+}
+
+/// A sheet with many transitions of the same state, kind and unit, which version 3 joins; often too
+/// many.
+pub fn sheet_of_rivals(random: &mut Random) -> SheetDraft {
+    let size = random.pick(&[Size::Any, Size::Any, Size::Full]);
+    let mut draft = sheet(random, size);
+    let places = random.between(1, 4);
+    let few = |number: u8, count: u8| number % count.min(places as u8);
+    for transition in &mut draft.transitions {
+        transition[0] = few(transition[0], draft.front.states);
+        transition[2] = few(transition[2], draft.front.units);
+    }
+    draft
 }
 
 /// A wide sheet and a log for it.
@@ -681,13 +725,17 @@ fn wide_case(random: &mut Random) -> RunCase {
 pub fn usual_case(random: &mut Random) -> RunCase {
     let size = any_size(random);
     let draft = sheet(random, size);
-    let shape = Shape::of(&draft);
+    case_of(random, &draft)
+}
+
+fn case_of(random: &mut Random, draft: &SheetDraft) -> RunCase {
+    let shape = Shape::of(draft);
     let mut bytes = draft.bytes();
     let manner = Manner::any(random);
     let length = any_length(random, room_for_records(bytes.len(), shape.program));
     let mut log = write_log(shape.program, &records(random, shape, manner, length));
     match random.below(12) {
-        0 | 1 => bytes = break_sheet(random, &draft),
+        0 | 1 => bytes = break_sheet(random, draft),
         2 => bytes = damaged(random, bytes),
         3 => log = break_log(random, log),
         4 => damage_log(random, &mut log),
@@ -715,7 +763,8 @@ pub fn network_case(random: &mut Random, sheet_log: &[u8]) -> NetworkCase {
 fn wide_network_case(random: &mut Random) -> NetworkCase {
     let units = wide::units(random);
     let base = wide::sheet(random, &units);
-    let network = network_like(random, base).bytes();
+    let draft = network_like(random, base);
+    let network = in_any_version(random, draft).bytes();
     let log = wide::log::<Network>(random, &network, &units);
     NetworkCase { network, log }
 }
@@ -729,6 +778,7 @@ fn usual_network_case(random: &mut Random, sheet_log: &[u8]) -> NetworkCase {
         Size::Small
     };
     let draft = network(random, size);
+    let draft = in_any_version(random, draft);
     let bytes = match random.below(8) {
         0 | 1 => break_network(random, &draft),
         2 => damaged(random, draft.bytes()),
@@ -760,8 +810,12 @@ fn break_network_as_sheet(random: &mut Random) -> Vec<u8> {
     base.transitions.clear();
     let mut bytes = break_sheet(random, &base);
     if let Some(version) = bytes.get_mut(2) {
-        // 1 becomes 2; a version that is wrong stays wrong.
-        *version = version.wrapping_add(1);
+        // 1 becomes 2, and what is wrong for a sheet becomes wrong for a network.
+        *version = match *version {
+            1 => 2,
+            2 | 3 => 4,
+            wrong => wrong,
+        };
     }
     bytes
 }

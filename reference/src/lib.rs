@@ -1,6 +1,7 @@
 //! A second implementation of document 01 (rule sheets, call logs, networks), written from the
 //! papers alone. It decodes bytes into owned structures and evaluates trees.
 
+pub mod card_cases;
 pub mod condition_cases;
 pub mod deciding;
 pub mod draft;
@@ -27,6 +28,7 @@ pub mod random;
 pub mod random_expr;
 pub mod random_script;
 pub mod refusal;
+pub mod rival_sheets;
 pub mod run;
 pub mod samples;
 pub mod script;

@@ -89,11 +89,10 @@ impl Machine {
     }
 
     /// The version, the counts and the tables that sheets and networks share.
-    pub fn write(&self, version: u8, transitions: usize, last: usize) -> Vec<u8> {
+    pub fn write(&self, layout: &Layout, transitions: usize, last: usize) -> Vec<u8> {
         let h = &self.header;
-        let mut out = vec![
-            0, 0, version, h.states, h.units, h.program, h.monitor, h.start,
-        ];
+        let mut out = vec![0, 0, layout.version];
+        out.extend([h.states, h.units, h.program, h.monitor, h.start]);
         out.extend(h.bad.to_be_bytes());
         for count in [self.conditions.len(), self.actions.len(), transitions, last] {
             out.push(count as u8);
@@ -102,17 +101,19 @@ impl Machine {
             out.extend(value.to_be_bytes());
         }
         for condition in &self.conditions {
-            write_counted(&condition.bytes(), &mut out);
+            write_counted(&condition.bytes(), layout.conditions.width, &mut out);
         }
         for action in &self.actions {
-            write_counted(&action.bytes(), &mut out);
+            write_counted(&action.bytes(), ACTIONS.width, &mut out);
         }
         out
     }
 }
 
-pub fn write_counted(bytes: &[u8], out: &mut Vec<u8>) {
-    out.push(bytes.len() as u8);
+/// The bytes behind their length, which takes `width` bytes.
+pub fn write_counted(bytes: &[u8], width: usize, out: &mut Vec<u8>) {
+    let length = bytes.len().to_be_bytes();
+    out.extend_from_slice(&length[length.len() - width..]);
     out.extend_from_slice(bytes);
 }
 
@@ -134,7 +135,32 @@ pub fn set_length(bytes: &mut [u8]) {
 
 // ---- Reading ----------------------------------------------------------------------------------
 
-/// What differs between the headers of sheets and networks.
+/// How the lengths in a table are written, and between what they are.
+#[derive(Clone, Copy, Debug, PartialEq, Eq)]
+pub struct Lengths {
+    /// In bytes.
+    pub width: usize,
+    pub least: usize,
+    pub most: usize,
+}
+
+pub const SHORT_CONDITIONS: Lengths = Lengths {
+    width: 1,
+    least: 1,
+    most: expr::LONGEST,
+};
+pub const LONG_CONDITIONS: Lengths = Lengths {
+    width: 2,
+    least: 1,
+    most: expr::LONGEST_ALONE,
+};
+const ACTIONS: Lengths = Lengths {
+    width: 1,
+    least: 0,
+    most: expr::LONGEST,
+};
+
+/// What differs between sheets and the versions of networks before the transitions.
 pub struct Layout {
     pub version: u8,
     pub most_conditions: u8,
@@ -142,6 +168,7 @@ pub struct Layout {
     pub most_transitions: u8,
     /// Triples or templates.
     pub most_last: u8,
+    pub conditions: Lengths,
 }
 
 /// The counts that stand in the header, in its order.
@@ -233,10 +260,11 @@ impl<'a> Cutter<'a> {
         Ok(i32::from_be_bytes([bytes[0], bytes[1], bytes[2], bytes[3]]))
     }
 
-    /// Bytes after a length byte that is at least `least` and at most 64.
-    fn counted(&mut self, least: usize) -> Result<&'a [u8], Refusal> {
-        let length = usize::from(self.byte()?);
-        if length < least || length > expr::LONGEST {
+    /// Bytes behind their length.
+    fn counted(&mut self, lengths: Lengths) -> Result<&'a [u8], Refusal> {
+        let digits = self.take(lengths.width)?.iter();
+        let length = digits.fold(0, |length, digit| 256 * length + usize::from(*digit));
+        if length < lengths.least || length > lengths.most {
             return Err(Refusal::Tables);
         }
         self.take(length)
@@ -262,11 +290,12 @@ pub fn cut_front<'a>(
     cutter: &mut Cutter<'a>,
     header: &Header,
     counts: &TableCounts,
+    conditions: Lengths,
 ) -> Result<FrontTables<'a>, Refusal> {
     Ok(FrontTables {
         initial: times(header.monitor.into(), || cutter.word())?,
-        conditions: times(counts.conditions, || cutter.counted(1))?,
-        actions: times(counts.actions, || cutter.counted(0))?,
+        conditions: times(counts.conditions, || cutter.counted(conditions))?,
+        actions: times(counts.actions, || cutter.counted(ACTIONS))?,
     })
 }
 

@@ -1,19 +1,55 @@
-//! Networks: reading and writing.
+//! Networks: reading and writing, in either version.
 
 use crate::machine::{self, below, Cutter, Kind, Layout, Machine, Places, Role, Transition};
 use crate::refusal::Refusal;
 
+/// Of version 2.
 pub const LONGEST_NETWORK: usize = 7_904;
-const VERSION: u8 = 2;
 const MOST_PAIRS: u8 = 4;
 
-const LAYOUT: Layout = Layout {
-    version: VERSION,
+const VERSION_2: Layout = Layout {
+    version: 2,
     most_conditions: 65,
     most_actions: 33,
     most_transitions: 96,
     most_last: 32,
+    conditions: machine::SHORT_CONDITIONS,
 };
+
+/// A condition for each transition besides those of version 2, and longer ones.
+const VERSION_3: Layout = Layout {
+    version: 3,
+    most_conditions: VERSION_2.most_conditions + VERSION_2.most_transitions,
+    conditions: machine::LONG_CONDITIONS,
+    ..VERSION_2
+};
+
+#[derive(Clone, Copy, Debug, PartialEq, Eq, Hash)]
+pub enum Version {
+    Two,
+    Three,
+}
+
+impl Version {
+    pub fn from_byte(byte: u8) -> Option<Version> {
+        match byte {
+            2 => Some(Version::Two),
+            3 => Some(Version::Three),
+            _ => None,
+        }
+    }
+
+    pub fn byte(self) -> u8 {
+        self.layout().version
+    }
+
+    fn layout(self) -> &'static Layout {
+        match self {
+            Version::Two => &VERSION_2,
+            Version::Three => &VERSION_3,
+        }
+    }
+}
 
 /// A checker is created from the template where the condition holds at a taken entry.
 #[derive(Clone, Copy, Debug, PartialEq, Eq)]
@@ -36,6 +72,7 @@ pub struct Template {
 
 #[derive(Clone, Debug, PartialEq, Eq)]
 pub struct Network {
+    pub version: Version,
     pub machine: Machine,
     pub transitions: Vec<Creating>,
     pub templates: Vec<Template>,
@@ -44,9 +81,13 @@ pub struct Network {
 impl Network {
     /// Reads a network, or gives the first refusal of 1-7 that applies.
     pub fn read(bytes: &[u8]) -> Result<Network, Refusal> {
-        let (header, counts) = machine::read_header(bytes, &LAYOUT)?;
+        // With another byte it is refused 1 or 2 in either version.
+        let version = bytes.get(2).and_then(|byte| Version::from_byte(*byte));
+        let version = version.unwrap_or(Version::Two);
+        let layout = version.layout();
+        let (header, counts) = machine::read_header(bytes, layout)?;
         let mut cutter = Cutter::after_header(bytes);
-        let front = machine::cut_front(&mut cutter, &header, &counts)?;
+        let front = machine::cut_front(&mut cutter, &header, &counts, layout.conditions)?;
         let transitions = machine::times(counts.transitions, || cut_transition(&mut cutter))?;
         let templates = machine::times(counts.last, || cutter.take(2))?;
         cutter.end()?;
@@ -57,6 +98,7 @@ impl Network {
         let transitions = transitions.map(|raw| read_creating(raw, &machine, &templates));
         let transitions = transitions.collect::<Result<_, _>>()?;
         let network = Network {
+            version,
             machine,
             transitions,
             templates,
@@ -67,7 +109,9 @@ impl Network {
 
     pub fn bytes(&self) -> Vec<u8> {
         let (transitions, templates) = (self.transitions.len(), self.templates.len());
-        let mut out = self.machine.write(VERSION, transitions, templates);
+        let mut out = self
+            .machine
+            .write(self.version.layout(), transitions, templates);
         for creating in &self.transitions {
             out.extend(creating.transition.bytes());
             out.push(creating.pairs.len() as u8);

@@ -17,7 +17,7 @@ use crate::shared_cases::{self, base, base_state, full_state, tiny, Events, Near
 use crate::sheet::Sheet;
 use crate::sheet_cases::{greatest_network, NETWORK_A};
 use crate::state::{NetworkState, MOST_CHECKERS};
-use crate::{wide, wide_cases};
+use crate::{card_cases, wide, wide_cases};
 
 pub type Page = script::Page<Checkers>;
 type Script = script::Script<Network>;
@@ -46,9 +46,14 @@ impl Subject for Network {
 
     fn wide(random: &mut Random, units: &[u8]) -> Vec<u8> {
         let sheet = wide::sheet(random, units);
-        match random.below(2) {
+        match random.below(4) {
             0 => Network::of_sheet(&sheet),
-            _ => generate::network_like(random, sheet).bytes(),
+            1 => card_cases::in_version_3(&Network::of_sheet(&sheet)),
+            2 => generate::network_like(random, sheet).bytes(),
+            _ => {
+                let network = generate::network_like(random, sheet);
+                network.in_version_3().bytes()
+            }
         }
     }
 
@@ -83,12 +88,12 @@ impl Subject for Network {
 // ---- States as lines show them ----------------------------------------------------------------
 
 /// A call's number, its unit and its kept values.
-type Call<'a> = (u16, u8, &'a [i32]);
+pub(crate) type Call<'a> = (u16, u8, &'a [i32]);
 /// A checker's call number and its template.
-type Checker = (u16, u8);
+pub(crate) type Checker = (u16, u8);
 
 /// A taken event's line: what stands before the calls, these calls and checkers, and the rest.
-fn taken(front: &str, calls: &[Call], checkers: &[Checker], rest: &str) -> String {
+pub(crate) fn taken(front: &str, calls: &[Call], checkers: &[Checker], rest: &str) -> String {
     let mut line = format!("taken{front}");
     put(&mut line, "o", calls.len() as i64);
     for (i, (number, unit, kept)) in calls.iter().enumerate() {
@@ -695,7 +700,7 @@ fn refusals_together(script: &mut Script) {
 }
 
 /// One of everything in as few bytes as go: one state, unit, condition, action, pair and template.
-fn least(program: u8, initial: &[i32]) -> NetworkDraft {
+pub(crate) fn least(program: u8, initial: &[i32]) -> NetworkDraft {
     let mut network = NetworkDraft::new(1, 1, program, initial);
     network.front.conditions = vec![vec![0]];
     network.front.actions = vec![vec![]];
@@ -704,10 +709,9 @@ fn least(program: u8, initial: &[i32]) -> NetworkDraft {
     network
 }
 
-/// Networks that are refused, each with its number.
-fn refused_networks() -> Vec<(u8, Vec<u8>)> {
+/// Networks that are refused, each with its number: from the least of a version and a good one of it.
+pub(crate) fn refused_networks(least: Least, good: &[u8]) -> Vec<(u8, Vec<u8>)> {
     let small = NetworkDraft::new(1, 1, 0, &[]).bytes();
-    let good = Network::of_sheet(&base());
     let mut networks = vec![
         (1, Vec::new()),
         (1, small[..13].to_vec()),
@@ -722,7 +726,8 @@ fn refused_networks() -> Vec<(u8, Vec<u8>)> {
         change(&mut network);
         networks.push((number, network.bytes()));
     };
-    change(2, &|d| d.front.version = 3);
+    change(2, &|d| d.front.version = 1);
+    change(2, &|d| d.front.version = 4);
     change(3, &|d| d.front.states = 17);
     change(3, &|d| d.front.units = 0);
     change(3, &|d| d.front.start = 1);
@@ -738,13 +743,16 @@ fn refused_networks() -> Vec<(u8, Vec<u8>)> {
         d.front.units = 2;
         d.templates[0][0] = 1;
     });
-    networks.extend(refused_roles());
+    networks.extend(refused_roles(least));
     networks
 }
 
+/// Makes a network with these many program variables and these monitor variables.
+pub(crate) type Least = fn(u8, &[i32]) -> NetworkDraft;
+
 /// Refused with 7: a value at entry in a pair's condition, a guard and an action; a monitor variable in
 /// a pair's condition and a template's.
-fn refused_roles() -> Vec<(u8, Vec<u8>)> {
+fn refused_roles(least: Least) -> Vec<(u8, Vec<u8>)> {
     let (at_entry, monitor) = (vec![5, 19, 0, 19, 0], vec![5, 18, 0, 18, 0]);
     let with = |condition: &[u8], place: fn(&mut NetworkDraft) -> &mut u8| {
         let mut network = least(1, &[0]);
@@ -764,7 +772,8 @@ fn refused_roles() -> Vec<(u8, Vec<u8>)> {
 }
 
 fn reading(script: &mut Script) {
-    shared_cases::reading(script, &refused_networks());
+    let good = Network::of_sheet(&base());
+    shared_cases::reading(script, &refused_networks(least, &good));
 }
 
 // ---- Logs -------------------------------------------------------------------------------------
@@ -839,7 +848,7 @@ const NETWORKS: usize = 21;
 const LONGEST: usize = 130;
 
 /// With several pairs on an entry from the start state, and exits that lead to a bad state.
-fn random_network(random: &mut Random) -> Vec<u8> {
+pub(crate) fn random_network(random: &mut Random) -> NetworkDraft {
     loop {
         let draft = generate::network(random, Size::Small);
         let start = draft.front.start;
@@ -851,9 +860,9 @@ fn random_network(random: &mut Random) -> Vec<u8> {
         let checked = |unit: u8| draft.templates.iter().any(|t| t[0] == unit);
         let mut exits = transitions.filter(|(t, _)| t[1] == 1);
         let ends_badly = exits.any(|(t, _)| checked(t[2]) && bad(t[5]));
-        let bytes = draft.bytes();
-        if creates && ends_badly && draft.templates.len() > 1 && bytes.len() <= LONGEST {
-            return bytes;
+        let short = draft.bytes().len() <= LONGEST;
+        if creates && ends_badly && draft.templates.len() > 1 && short {
+            return draft;
         }
     }
 }
@@ -863,7 +872,7 @@ fn random_cases(script: &mut Script) {
     for number in 0..NETWORKS {
         let bytes = match number % 3 {
             0 => Network::of_sheet(&random_sheet(&mut random)),
-            _ => random_network(&mut random),
+            _ => random_network(&mut random).bytes(),
         };
         on_rules(script, &mut random, &bytes);
     }
@@ -873,25 +882,31 @@ fn random_cases(script: &mut Script) {
 
 // ---- All --------------------------------------------------------------------------------------
 
+/// The chosen cases on networks that are accepted.
+const CHOSEN: [fn(&mut Script); 11] = [
+    document,
+    creating,
+    pairs,
+    nesting,
+    filling,
+    values,
+    soundness,
+    positions,
+    refusals_together,
+    shared_cases::logs,
+    logs_by_hand,
+];
+
 /// The first page has no room for more.
 pub fn all() -> Vec<Page> {
-    let first = Script::of(&[
-        document,
-        creating,
-        pairs,
-        nesting,
-        filling,
-        values,
-        soundness,
-        positions,
-        refusals_together,
-        reading,
-        shared_cases::logs,
-        logs_by_hand,
-        random_cases,
-    ]);
-    [vec![first], wide_cases::pages::<Network>()]
-        .into_iter()
-        .flatten()
-        .collect()
+    let first = Script::of(&[&CHOSEN[..], &[reading, random_cases]].concat());
+    let carried_over = Script::of(&CHOSEN);
+    [
+        vec![first],
+        wide_cases::pages::<Network>(),
+        card_cases::pages(&carried_over),
+    ]
+    .into_iter()
+    .flatten()
+    .collect()
 }

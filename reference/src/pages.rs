@@ -1,5 +1,4 @@
-//! The pages in which `cases`, `monitor_cases` and `network_cases` read their input. No frame goes
-//! over the end of one.
+//! The pages in which the case programs read their input. No frame goes over the end of one.
 
 pub const PAGE: usize = 65_536;
 /// The most pages of an input.
@@ -19,4 +18,16 @@ pub fn append(frame: &[u8], out: &mut Vec<u8>) {
         fill(out);
     }
     out.extend(frame);
+}
+
+/// Reads the frames of all pages one after the other; `None` where something else stands in one.
+pub fn read<T>(bytes: &[u8], frame: fn(&mut &[u8]) -> Option<T>) -> Option<Vec<T>> {
+    let mut all = Vec::new();
+    for page in bytes.chunks(PAGE) {
+        let mut rest = page;
+        while rest.iter().any(|byte| *byte != FILLER) {
+            all.push(frame(&mut rest)?);
+        }
+    }
+    Some(all)
 }

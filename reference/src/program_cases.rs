@@ -3,7 +3,6 @@
 
 use crate::generate::{usual_case, RunCase};
 use crate::machine::MOST_PROGRAM;
-use crate::pages;
 use crate::program::{output, MOST_INPUT};
 use crate::random::Random;
 use crate::run::{write_log, Record};
@@ -42,9 +41,8 @@ impl Frame {
         }
     }
 
-    /// Appends the frame, on a new page where this one has no room for it.
     pub fn write(&self, out: &mut Vec<u8>) {
-        pages::append(&self.bytes(), out);
+        out.extend(self.bytes());
     }
 
     pub fn input(&self) -> Vec<u8> {
@@ -164,7 +162,7 @@ pub fn all() -> Vec<Frame> {
 #[cfg(test)]
 mod tests {
     use super::*;
-    use crate::pages::{MOST, PAGE};
+    use crate::pages::{self, MOST, PAGE};
     use std::collections::BTreeMap;
 
     /// The two lines with their numbers taken out, but for a refusal's.
@@ -217,7 +215,7 @@ mod tests {
         assert!(frames.len() > 2_650);
         let mut out = Vec::new();
         for frame in &frames {
-            frame.write(&mut out);
+            pages::append(&frame.bytes(), &mut out);
             let size = frame.bytes().len();
             assert_eq!((out.len() - size) / PAGE, (out.len() - 1) / PAGE);
         }

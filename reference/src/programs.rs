@@ -69,7 +69,7 @@ pub fn files(name: &str) -> Option<Files> {
     Some((program.make)())
 }
 
-/// Writes frames one after the other, and the lines of those that have one.
+/// Writes frames one after the other in pages, and the lines of those that have one.
 fn gather<F>(
     frames: impl Iterator<Item = F>,
     write: fn(&F, &mut Vec<u8>),
@@ -77,7 +77,9 @@ fn gather<F>(
 ) -> Files {
     let mut files = Files::default();
     for frame in frames {
-        write(&frame, &mut files.stdin);
+        let mut bytes = Vec::new();
+        write(&frame, &mut bytes);
+        pages::append(&bytes, &mut files.stdin);
         if let Some(line) = line(&frame) {
             files.stdout.extend(line.into_bytes());
             files.stdout.push(b'\n');

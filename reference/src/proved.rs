@@ -1,6 +1,7 @@
 //! The proved library, `crates/embed`, by way of its static library: the functions of
 //! `embed/watch.h` on slices. A Rust slice and a `&mut` are all that those ask of a caller.
 
+use crate::network::Version;
 use crate::run::Outcome;
 
 mod c {
@@ -24,6 +25,13 @@ mod c {
             third: *mut u32,
         ) -> u32;
         pub fn watch_translate(
+            sheet: *const u8,
+            sheet_length: usize,
+            out: *mut u8,
+            out_length: usize,
+            size: *mut usize,
+        ) -> u32;
+        pub fn watch_translate_card(
             sheet: *const u8,
             sheet_length: usize,
             out: *mut u8,
@@ -72,11 +80,15 @@ pub fn run_network(network: &[u8], log: &[u8]) -> Answer {
     answer(c::watch_run_network, network, log)
 }
 
-/// 0, with the network at the front of `out` and its length in `size`; or the refusal.
-pub fn translate(sheet: &[u8], out: &mut [u8], size: &mut usize) -> u32 {
+/// 0, with the network of this version at the front of `out` and its length in `size`; or the refusal.
+pub fn translate(version: Version, sheet: &[u8], out: &mut [u8], size: &mut usize) -> u32 {
+    let translate = match version {
+        Version::Two => c::watch_translate,
+        Version::Three => c::watch_translate_card,
+    };
     // SAFETY: the slices and the place are good, and are lent to nobody else.
     unsafe {
-        c::watch_translate(
+        translate(
             sheet.as_ptr(),
             sheet.len(),
             out.as_mut_ptr(),

@@ -1,4 +1,4 @@
-//! The refusals of document 01, each with its number.
+//! The refusals of document 01 and of the requests of document 02, each with its number.
 
 use std::fmt;
 
@@ -32,10 +32,12 @@ pub enum Refusal {
     LogVariables = 17,
     LogRecords = 18,
     Buffer = 19,
+    /// A joined condition over 1,024 bytes, or a version 3 network over 65,535.
+    TooLong = 21,
 }
 
 impl Refusal {
-    pub const ALL: [Refusal; 19] = [
+    pub const ALL: [Refusal; 20] = [
         Refusal::Length,
         Refusal::Version,
         Refusal::Header,
@@ -55,6 +57,7 @@ impl Refusal {
         Refusal::LogVariables,
         Refusal::LogRecords,
         Refusal::Buffer,
+        Refusal::TooLong,
     ];
 
     pub fn number(self) -> u8 {

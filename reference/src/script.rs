@@ -33,6 +33,8 @@ pub enum Sort {
     Values,
     /// The last of the values and variables, units from 8 on, numbers over 255.
     Wide,
+    /// Networks of version 3 with long conditions, and with joined ones.
+    Card,
 }
 
 /// A frame, the line that the reference gives for it, and the answer written down by hand.

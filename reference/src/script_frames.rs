@@ -2,8 +2,9 @@
 //! and a state, offers single events and runs logs. See CASES.md.
 
 use crate::engine::{fresh_state, offer, Engine};
-use crate::frames::{read_all, take};
+use crate::frames::take;
 use crate::machine::MOST_PROGRAM;
+use crate::pages;
 use crate::run::{run_bytes, Outcome, Record};
 use crate::state::{Cause, Common, Verdict};
 use std::fmt::{Debug, Write};
@@ -317,9 +318,9 @@ pub fn put(text: &mut String, name: &str, value: i64) {
 
 // ---- Reading ----------------------------------------------------------------------------------
 
-/// Reads frames to the end of the bytes; `None` where they do not fill it exactly.
+/// Reads the frames of all pages; `None` where something else stands in one.
 pub fn read_frames<O: Own>(bytes: &[u8]) -> Option<Vec<Frame<O>>> {
-    read_all(bytes, read_frame)
+    pages::read(bytes, read_frame)
 }
 
 /// Reads the frames of a page, up to what is none, and gives the bytes from there on.

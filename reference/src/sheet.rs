@@ -4,15 +4,15 @@ use crate::machine::{self, below, Cutter, Layout, Machine, Places, Role, Transit
 use crate::refusal::Refusal;
 
 pub const LONGEST_SHEET: usize = 6_782;
-const VERSION: u8 = 1;
 const MOST_TOGETHER: usize = 4;
 
 const LAYOUT: Layout = Layout {
-    version: VERSION,
+    version: 1,
     most_conditions: 64,
     most_actions: 32,
     most_transitions: 64,
     most_last: 32,
+    conditions: machine::SHORT_CONDITIONS,
 };
 
 #[derive(Clone, Copy, Debug, PartialEq, Eq)]
@@ -35,7 +35,7 @@ impl Sheet {
     pub fn read(bytes: &[u8]) -> Result<Sheet, Refusal> {
         let (header, counts) = machine::read_header(bytes, &LAYOUT)?;
         let mut cutter = Cutter::after_header(bytes);
-        let front = machine::cut_front(&mut cutter, &header, &counts)?;
+        let front = machine::cut_front(&mut cutter, &header, &counts, LAYOUT.conditions)?;
         let transitions = machine::times(counts.transitions, || cutter.take(6))?;
         let triples = machine::times(counts.last, || cutter.take(4))?;
         cutter.end()?;
@@ -58,7 +58,7 @@ impl Sheet {
 
     pub fn bytes(&self) -> Vec<u8> {
         let (transitions, triples) = (self.transitions.len(), self.triples.len());
-        let mut out = self.machine.write(VERSION, transitions, triples);
+        let mut out = self.machine.write(&LAYOUT, transitions, triples);
         for transition in &self.transitions {
             out.extend(transition.bytes());
         }

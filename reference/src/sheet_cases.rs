@@ -4,10 +4,11 @@
 use crate::draft::{Front, NetworkDraft, SheetDraft};
 use crate::generate::{self, Size};
 use crate::machine::{set_length, Places};
+use crate::network::Version;
 use crate::random::Random;
 use crate::run::write_log;
-use crate::sheet::Sheet;
 use crate::sheet_frames::{accepted, records, Frame, Kind};
+use crate::translate::{translate_to, CARD_BUFFER};
 use std::collections::HashSet;
 
 /// A frame and, where it was chosen by hand, the answer worked out apart from the reader.
@@ -20,10 +21,12 @@ pub struct Row {
 type Answer = Option<u8>;
 const OK: Answer = None;
 
-/// What sheets and networks have in common here. Both start from the same front.
+/// What sheets and networks of both versions have in common here. All start from the same front.
 trait Draft: Clone {
     const KIND: Kind;
     const VERSION: u8;
+    /// The longest condition.
+    const LONGEST: usize;
     /// The highest refusal of reading.
     const LAST_REFUSAL: u8;
     /// The most conditions, actions, transitions, and triples or templates.
@@ -51,6 +54,7 @@ trait Draft: Clone {
 impl Draft for SheetDraft {
     const KIND: Kind = Kind::Sheet;
     const VERSION: u8 = 1;
+    const LONGEST: usize = 64;
     const LAST_REFUSAL: u8 = 8;
     const MOST: [u8; 4] = [64, 32, 64, 32];
 
@@ -95,55 +99,62 @@ impl Draft for SheetDraft {
     }
 }
 
-impl Draft for NetworkDraft {
+/// A network of version 2 or 3.
+#[derive(Clone)]
+struct Net<const VERSION: u8>(NetworkDraft);
+
+impl<const VERSION: u8> Draft for Net<VERSION> {
     const KIND: Kind = Kind::Network;
-    const VERSION: u8 = 2;
+    const VERSION: u8 = VERSION;
+    const LONGEST: usize = if VERSION == 3 { 1_024 } else { 64 };
     const LAST_REFUSAL: u8 = 7;
-    const MOST: [u8; 4] = [65, 33, 96, 32];
+    const MOST: [u8; 4] = [if VERSION == 3 { 161 } else { 65 }, 33, 96, 32];
 
     fn with(front: Front) -> Self {
-        NetworkDraft {
+        let mut draft = NetworkDraft {
             front,
             ..NetworkDraft::default()
-        }
+        };
+        draft.front.wide = VERSION == 3;
+        Net(draft)
     }
 
     fn front(&mut self) -> &mut Front {
-        &mut self.front
+        &mut self.0.front
     }
 
     fn transition(&mut self, bytes: [u8; 6]) {
-        self.transitions.push((bytes, Vec::new()));
+        self.0.transitions.push((bytes, Vec::new()));
     }
 
     fn transitions(&mut self) -> Vec<&mut [u8; 6]> {
-        self.transitions.iter_mut().map(|(t, _)| t).collect()
+        self.0.transitions.iter_mut().map(|(t, _)| t).collect()
     }
 
     fn check(&mut self, precondition: u8, postcondition: u8) {
-        let template = self.templates.len() as u8;
-        self.templates.push([0, postcondition]);
-        if self.transitions.is_empty() {
+        let template = self.0.templates.len() as u8;
+        self.0.templates.push([0, postcondition]);
+        if self.0.transitions.is_empty() {
             self.transition([0; 6]);
         }
-        self.transitions[0].1.push([precondition, template]);
+        self.0.transitions[0].1.push([precondition, template]);
     }
 
     fn fill_last(&mut self, count: u8) {
-        self.templates = vec![[0, 0]; count.into()];
+        self.0.templates = vec![[0, 0]; count.into()];
     }
 
     fn last_postcondition(&mut self) -> &mut u8 {
-        let last = self.templates.len() - 1;
-        &mut self.templates[last][1]
+        let last = self.0.templates.len() - 1;
+        &mut self.0.templates[last][1]
     }
 
     fn bytes(&self) -> Vec<u8> {
-        NetworkDraft::bytes(self)
+        self.0.bytes()
     }
 
     fn places(&self) -> Places {
-        NetworkDraft::places(self)
+        self.0.places()
     }
 }
 
@@ -319,11 +330,18 @@ fn lengths<D: Draft>(rows: &mut Rows) {
     rows.refused::<D>(&[&usual[..], &[0]].concat(), 1);
 }
 
+/// A network may be of the other version, but then its conditions' lengths are read in another way.
 fn versions<D: Draft>(rows: &mut Rows) {
-    for version in [0, 1, 2, 3, 255] {
-        let answer = (version != D::VERSION).then_some(2);
-        rows.header::<D>(answer, |f| f.version = version);
-        rows.base::<D>(answer, |d| d.front().version = version);
+    for version in [0, 1, 2, 3, 4, 255] {
+        let own = version == D::VERSION;
+        let other = D::KIND == Kind::Network && [2, 3].contains(&version);
+        let (header, base) = match (own, other) {
+            (true, _) => (OK, OK),
+            (_, true) => (OK, Some(4)),
+            _ => (Some(2), Some(2)),
+        };
+        rows.header::<D>(header, |f| f.version = version);
+        rows.base::<D>(base, |d| d.front().version = version);
     }
 }
 
@@ -431,15 +449,15 @@ fn starts_and_bad_states<D: Draft>(rows: &mut Rows) {
 }
 
 fn length_bytes<D: Draft>(rows: &mut Rows) {
-    for length in [0, 1, 2, 64, 65] {
-        let answer = (!(1..=64).contains(&length)).then_some(4);
+    for length in [0, 1, 2, 64, 65, D::LONGEST - 1, D::LONGEST, D::LONGEST + 1] {
+        let answer = (!(1..=D::LONGEST).contains(&length)).then_some(4);
         rows.judge(&one_condition::<D>(0, 0, &nots(length), false), answer);
     }
     for length in [0, 3, 64, 65] {
         let answer = (length > 64).then_some(4);
         rows.judge(&one_action::<D>(0, 1, &assignments(length), false), answer);
     }
-    rows.judge(&one_condition::<D>(0, 0, &nots(64), true), OK);
+    rows.judge(&one_condition::<D>(0, 0, &nots(D::LONGEST), true), OK);
     rows.judge(&one_action::<D>(0, 1, &assignments(64), true), OK);
     // The bytes that a length byte asks for are not there.
     for length in [0, 1, 64, 65, 128, 255] {
@@ -463,7 +481,7 @@ fn length_bytes<D: Draft>(rows: &mut Rows) {
     };
     rows.judge(&three(0), Some(4));
     rows.judge(&three(1), OK);
-    rows.judge(&three(65), Some(4));
+    rows.judge(&three(D::LONGEST + 1), Some(4));
 }
 
 /// An action of this length that assigns variable 0 to itself, in 3 or 7 bytes at a time.
@@ -786,6 +804,19 @@ fn precedence<D: Draft>(rows: &mut Rows) {
             rows.refused::<D>(&spoiled_late(draft, first), first);
         }
     }
+    // A length out of range behind what is no condition.
+    let long_condition = nots(D::LONGEST + 1);
+    for (conditions, actions) in [
+        (vec![vec![]], vec![]),
+        (vec![long_condition], vec![]),
+        (vec![], vec![assignments(65)]),
+    ] {
+        rows.base::<D>(Some(4), |d| {
+            d.front().conditions[0] = vec![7];
+            d.front().conditions.extend(conditions);
+            d.front().actions.extend(actions);
+        });
+    }
     // A wrong count and tables that do not fit; under 14 bytes and everything wrong.
     rows.refused::<D>(&with_length(vec![255; 40]), 2);
     rows.refused::<D>(&[255; 13], 1);
@@ -862,9 +893,9 @@ fn crowding(rows: &mut Rows) {
 
 // ---- Networks alone ---------------------------------------------------------------------------
 
-fn pairs_and_templates(rows: &mut Rows) {
+fn pairs_and_templates<const VERSION: u8>(rows: &mut Rows) {
     let mut change = |answer: Answer, change: &dyn Fn(&mut NetworkDraft)| {
-        rows.base::<NetworkDraft>(answer, |d| change(d));
+        rows.base::<Net<VERSION>>(answer, |d| change(&mut d.0));
     };
     for count in [0, 1, 2, 3, 4, 5, 6] {
         let answer = at_most(count, 4, 4);
@@ -872,14 +903,14 @@ fn pairs_and_templates(rows: &mut Rows) {
     }
     // n on the last transition, with no pairs behind it.
     for count in [1, 4, 5, 255] {
-        let mut bytes = empty::<NetworkDraft>()
+        let mut bytes = empty::<Net<VERSION>>()
             .changed(|d| d.transition([0; 6]))
             .bytes();
         bytes[20] = count;
-        rows.refused::<NetworkDraft>(&bytes, 4);
+        rows.refused::<Net<VERSION>>(&bytes, 4);
     }
     let mut change = |answer: Answer, change: &dyn Fn(&mut NetworkDraft)| {
-        rows.base::<NetworkDraft>(answer, |d| change(d));
+        rows.base::<Net<VERSION>>(answer, |d| change(&mut d.0));
     };
     for number in [3, 255] {
         change(Some(6), &|d| d.transitions[0].1[0][0] = number);
@@ -934,6 +965,160 @@ fn pairs_and_templates(rows: &mut Rows) {
     change(OK, &|d| d.templates = vec![[0, 0]; 6]);
 }
 
+// ---- Version 3 alone --------------------------------------------------------------------------
+
+/// The bytes of a version 3 network with one condition: its length as written, and its bytes.
+fn with_length_field(field: [u8; 2], condition: &[u8]) -> Vec<u8> {
+    let mut bytes = empty::<Net<3>>().bytes();
+    bytes[10] = 1;
+    with_length([&bytes[..], &field, condition].concat())
+}
+
+/// Two bytes of length: both count, the first one more.
+fn length_fields(rows: &mut Rows) {
+    for length in [1, 255, 256, 257, 511, 512, 1_023, 1_024] {
+        rows.judge(&one_condition::<Net<3>>(0, 0, &nots(length), false), OK);
+    }
+    for length in [1_025, 1_026, 1_088, 1_280, 2_048] {
+        let draft = one_condition::<Net<3>>(0, 0, &nots(length), false);
+        rows.judge(&draft, Some(4));
+    }
+    // The two bytes exchanged.
+    rows.refused::<Net<3>>(&with_length_field([1, 0], &nots(1)), 4);
+    rows.refused::<Net<3>>(&with_length_field([2, 1], &nots(258)), 4);
+    // One byte short of what is asked for, and one too many.
+    for (high, length) in [(1, 255), (1, 257), (4, 1_023), (4, 1_025)] {
+        rows.refused::<Net<3>>(&with_length_field([high, 0], &nots(length)), 4);
+    }
+    misread_lengths(rows);
+}
+
+/// Nothing behind the length, what its low byte alone would ask for, and what its high one would.
+fn misread_lengths(rows: &mut Rows) {
+    for number in [0, 1, 256, 257, 258, 513, 1_024, 1_025, u16::MAX] {
+        let [high, low] = number.to_be_bytes();
+        for length in [0, low, high] {
+            let bytes = with_length_field([high, low], &nots(length.into()));
+            let right = length > 0 && number == u16::from(length);
+            let end = Places {
+                transitions: bytes.len(),
+                last: bytes.len(),
+            };
+            let expected = if right { accepted(end) } else { refused(4) };
+            rows.add(Kind::Network, 0, bytes, Some(expected));
+        }
+    }
+}
+
+/// Where the tables begin behind long conditions, one of which is in the middle; and what breaks
+/// behind them.
+fn long_tables(rows: &mut Rows) {
+    for length in [64, 65, 255, 256, 257, 1_024] {
+        let long = |d: &mut Net<3>| d.front().conditions.insert(3, nots(length));
+        rows.base::<Net<3>>(OK, long);
+        let between = |d: &mut Net<3>| {
+            d.front().conditions.push(nots(length));
+            d.front().conditions.push(nots(2));
+            d.transitions()[1][3] = 4;
+        };
+        rows.base::<Net<3>>(OK, between);
+        rows.base::<Net<3>>(Some(6), |d| {
+            between(d);
+            d.transitions()[1][3] = 5;
+        });
+        rows.base::<Net<3>>(Some(4), |d| {
+            between(d);
+            d.0.transitions[0].1 = vec![[0, 0]; 5];
+        });
+        rows.base::<Net<3>>(Some(5), |d| {
+            between(d);
+            d.front().conditions[3][length - 1] = 1;
+        });
+        rows.base::<Net<3>>(Some(7), |d| {
+            between(d);
+            d.front().conditions[4] = ON_ENTRY.to_vec();
+        });
+    }
+    for (count, answer) in [(160, OK), (161, OK), (162, Some(3))] {
+        let many = |d: &mut Net<3>| d.front().conditions.resize(count, nots(3));
+        rows.base::<Net<3>>(answer, many);
+    }
+    for (number, answer) in [(159, OK), (160, OK), (161, Some(6)), (255, Some(6))] {
+        rows.base::<Net<3>>(answer, |d| {
+            d.front().conditions.resize(161, nots(1));
+            d.transitions()[1][3] = number;
+            d.0.transitions[0].1[0][0] = number.min(160);
+            *d.last_postcondition() = number;
+        });
+    }
+}
+
+/// What decides a long condition stands at its end, in each role.
+fn long_conditions(rows: &mut Rows) {
+    for (end, may) in [(ON_PROGRAM, [true; 3]), (ON_MONITOR, [true, false, false])] {
+        let condition = [&vec![1; 1_024 - end.len()], end].concat();
+        for role in 0..3 {
+            let mut roles = [false; 3];
+            roles[role] = true;
+            let answer = (!may[role]).then_some(7);
+            rows.judge(&in_roles::<Net<3>>(&condition, roles), answer);
+        }
+    }
+    let at_end = |end: &[u8]| {
+        let condition = [&vec![1; 1_024 - end.len()], end].concat();
+        one_condition::<Net<3>>(1, 1, &condition, true)
+    };
+    rows.judge(&at_end(ON_ENTRY), Some(7));
+    for end in [
+        &[1][..],
+        &[7],
+        &[0, 0],
+        &[4, 17, 0],
+        &[5, 17, 0, 17, 1],
+        &[5, 18, 1, 17, 0],
+    ] {
+        rows.judge(&at_end(end), Some(5));
+    }
+    // The same text is too long for a sheet and for version 2.
+    rows.judge(&one_condition::<SheetDraft>(0, 0, &nots(65), true), Some(4));
+    rows.judge(&one_condition::<Net<2>>(0, 0, &nots(65), true), Some(4));
+    rows.judge(&one_condition::<Net<3>>(0, 0, &nots(65), true), OK);
+}
+
+/// The network of document 01's sheet A, and others, with their version byte changed.
+fn other_versions(rows: &mut Rows) {
+    rows.add(
+        Kind::Network,
+        0,
+        CARD_A.to_vec(),
+        Some("accepted 41 66".into()),
+    );
+    rows.refused::<SheetDraft>(&CARD_A, 2);
+    let with = |bytes: &[u8], version: u8| {
+        let mut bytes = bytes.to_vec();
+        bytes[2] = version;
+        bytes
+    };
+    rows.refused::<Net<2>>(&with(&CARD_A, 2), 4);
+    rows.refused::<Net<3>>(&with(&NETWORK_A, 3), 4);
+    for version in [0, 1, 4, 255] {
+        rows.refused::<Net<3>>(&with(&CARD_A, version), 2);
+    }
+    // Read in either version: no conditions.
+    let none = least::<Net<2>>().changed(|d| d.front().conditions.clear());
+    for version in [2, 3] {
+        rows.refused::<Net<2>>(&with(&none.bytes(), version), 6);
+    }
+    let actions = one_action::<Net<2>>(0, 1, &assignments(64), false).bytes();
+    for version in [2, 3] {
+        let expected = accepted(Places {
+            transitions: actions.len(),
+            last: actions.len(),
+        });
+        rows.add(Kind::Network, 0, with(&actions, version), Some(expected));
+    }
+}
+
 // ---- Document 01 and the greatest -------------------------------------------------------------
 
 /// Document 01's sheet A.
@@ -953,6 +1138,19 @@ pub(crate) const NETWORK_A: [u8; 53] = [
     0x00, 0x00, 0x00, 0x00, 0x00, 0x01, 0x01, 0x00, 0x00, // transitions
     0x01, 0x01, 0x00, 0x00, 0x00, 0x00, 0x00, // an exit
     0x00, 0x00, 0x00, 0x02, 0x01, 0x00, 0x01, 0x00, 0x00, // the added one
+    0x00, 0x01, // template
+];
+/// The network of sheet A in version 3.
+pub const CARD_A: [u8; 68] = [
+    0x00, 0x44, 0x03, 0x02, 0x01, 0x02, 0x00, 0x00, 0x00, 0x00, 0x06, 0x02, 0x03,
+    0x01, // header
+    0x00, 0x01, 0x00, 0x00, 0x05, 0x05, 0x11, 0x01, 0x13, 0x00, // the sheet's conditions
+    0x00, 0x01, 0x00, // the added one
+    0x00, 0x01, 0x00, 0x00, 0x01, 0x00, 0x00, 0x04, 0x02, 0x01, 0x00, 0x00, // joined
+    0x00, 0x00, // actions
+    0x00, 0x00, 0x00, 0x03, 0x00, 0x01, 0x01, 0x00, 0x00, // transitions
+    0x01, 0x01, 0x00, 0x04, 0x00, 0x00, 0x00, // an exit
+    0x00, 0x00, 0x00, 0x05, 0x01, 0x00, 0x01, 0x00, 0x00, // the added one
     0x00, 0x01, // template
 ];
 /// Document 01's log on sheet A.
@@ -981,13 +1179,31 @@ fn document(rows: &mut Rows) {
 fn greatest(rows: &mut Rows) {
     let sheet = generate::sheet(&mut Random::new(SEED), Size::Full);
     rows.judge(&sheet, OK);
-    rows.judge(&greatest_network(&sheet), OK);
+    let network = greatest_network(&sheet);
+    rows.judge(&Net::<2>(network.clone()), OK);
+    // The longest of which a frame fits into a page.
+    rows.judge(&Net::<3>(network_of_length(network, 65_532)), OK);
+}
+
+/// From the greatest network of version 2: 161 conditions in version 3, of 1,024 bytes while there is
+/// room, and then of as many as are left.
+pub(crate) fn network_of_length(network: NetworkDraft, length: usize) -> NetworkDraft {
+    let mut draft = network.in_version_3();
+    draft.front.conditions.resize(161, nots(1));
+    let missing = length - draft.bytes().len();
+    for (number, condition) in draft.front.conditions[65..].iter_mut().enumerate() {
+        let more = missing.saturating_sub(1_023 * number).min(1_023);
+        *condition = nots(1 + more);
+    }
+    let (last, pairs) = &mut draft.transitions[95];
+    (last[3], pairs[3][0]) = (160, 160);
+    draft
 }
 
 /// From a sheet of the greatest length: every table filled, every transition an entry with four
 /// pairs, and the highest numbers named at least once.
 pub(crate) fn greatest_network(sheet: &SheetDraft) -> NetworkDraft {
-    let mut draft = NetworkDraft::with(sheet.front.clone());
+    let Net(mut draft) = Net::<2>::with(sheet.front.clone());
     draft.front.version = 2;
     draft.front.conditions.push(nots(64));
     draft.front.actions.push(assignments(64));
@@ -1120,8 +1336,14 @@ pub fn chosen() -> Vec<Row> {
         alike::<SheetDraft>,
         triple_numbers,
         crowding,
-        alike::<NetworkDraft>,
-        pairs_and_templates,
+        alike::<Net<2>>,
+        pairs_and_templates::<2>,
+        alike::<Net<3>>,
+        pairs_and_templates::<3>,
+        length_fields,
+        long_tables,
+        long_conditions,
+        other_versions,
         log_headers,
         log_records,
         greatest,
@@ -1139,19 +1361,21 @@ const SOUND: usize = 14;
 const ONE_BYTE: usize = 30;
 const BROKEN: usize = 8;
 const LOGS: usize = 36;
-/// The longest random sheet, network or log, to keep the file small.
+/// The longest random sheet, network or log, to keep the file small; and the longest of version 3.
 const LONGEST_RANDOM: usize = 60;
+const LONGEST_CARD: usize = 110;
 
 /// Tries again until the result is short enough and meets a wish.
 fn short<T>(
     random: &mut Random,
+    longest: usize,
     make: fn(&mut Random) -> T,
     bytes: fn(&T) -> Vec<u8>,
     wish: fn(&T) -> bool,
 ) -> T {
     loop {
         let made = make(random);
-        if bytes(&made).len() <= LONGEST_RANDOM && wish(&made) {
+        if bytes(&made).len() <= longest && wish(&made) {
             return made;
         }
     }
@@ -1161,23 +1385,38 @@ fn short<T>(
 fn short_sheet(random: &mut Random) -> SheetDraft {
     let make = |random: &mut Random| generate::sheet(random, Size::Small);
     let wish = |d: &SheetDraft| !d.transitions.is_empty() && !d.triples.is_empty();
-    short(random, make, SheetDraft::bytes, wish)
+    short(random, LONGEST_RANDOM, make, SheetDraft::bytes, wish)
 }
 
 /// With pairs.
 fn short_network(random: &mut Random) -> NetworkDraft {
     let make = |random: &mut Random| generate::network(random, Size::Small);
     let wish = |d: &NetworkDraft| d.transitions.iter().any(|(_, pairs)| !pairs.is_empty());
-    short(random, make, NetworkDraft::bytes, wish)
+    short(random, LONGEST_RANDOM, make, NetworkDraft::bytes, wish)
 }
 
 /// What translating a sheet gives.
 fn short_translation(random: &mut Random) -> Vec<u8> {
-    let make = |random: &mut Random| {
-        let sheet = Sheet::read(&short_sheet(random).bytes());
-        sheet.map_or_else(|_| Vec::new(), |sheet| sheet.translate().bytes())
-    };
-    short(random, make, Vec::clone, |bytes| !bytes.is_empty())
+    let make = |random: &mut Random| translated(&short_sheet(random), Version::Two);
+    short(random, LONGEST_RANDOM, make, Vec::clone, |bytes| {
+        !bytes.is_empty()
+    })
+}
+
+/// The same in version 3.
+fn short_card(random: &mut Random) -> Vec<u8> {
+    let make = |random: &mut Random| translated(&short_sheet(random), Version::Three);
+    short(random, LONGEST_CARD, make, Vec::clone, |bytes| {
+        !bytes.is_empty()
+    })
+}
+
+/// No bytes where it is refused.
+fn translated(draft: &SheetDraft, version: Version) -> Vec<u8> {
+    let mut buffer = vec![0; CARD_BUFFER];
+    let length = translate_to(version, &draft.bytes(), &mut buffer).unwrap_or(0);
+    buffer.truncate(length);
+    buffer
 }
 
 fn short_broken_sheet(random: &mut Random) -> Vec<u8> {
@@ -1185,7 +1424,7 @@ fn short_broken_sheet(random: &mut Random) -> Vec<u8> {
         let draft = short_sheet(random);
         generate::break_sheet(random, &draft)
     };
-    short(random, make, Vec::clone, |_| true)
+    short(random, LONGEST_RANDOM, make, Vec::clone, |_| true)
 }
 
 fn short_broken_network(random: &mut Random) -> Vec<u8> {
@@ -1193,7 +1432,15 @@ fn short_broken_network(random: &mut Random) -> Vec<u8> {
         let draft = short_network(random);
         generate::break_network(random, &draft)
     };
-    short(random, make, Vec::clone, |_| true)
+    short(random, LONGEST_RANDOM, make, Vec::clone, |_| true)
+}
+
+fn short_broken_card(random: &mut Random) -> Vec<u8> {
+    let make = |random: &mut Random| {
+        let draft = short_network(random).in_version_3();
+        generate::break_network(random, &draft)
+    };
+    short(random, LONGEST_CARD, make, Vec::clone, |_| true)
 }
 
 /// Another value for one byte behind the length: one more, one less, a small one, or any.
@@ -1214,7 +1461,7 @@ fn change_one_byte(random: &mut Random, mut bytes: Vec<u8>) -> Vec<u8> {
 fn random_sheets_and_networks(random: &mut Random, rows: &mut Rows) {
     for _ in 0..SOUND {
         rows.judge(&short_sheet(random), OK);
-        rows.judge(&short_network(random), OK);
+        rows.judge(&Net::<2>(short_network(random)), OK);
         rows.unknown(Kind::Network, 0, short_translation(random));
     }
     for _ in 0..ONE_BYTE {
@@ -1226,6 +1473,23 @@ fn random_sheets_and_networks(random: &mut Random, rows: &mut Rows) {
     for _ in 0..BROKEN {
         rows.unknown(Kind::Sheet, 0, short_broken_sheet(random));
         rows.unknown(Kind::Network, 0, short_broken_network(random));
+    }
+}
+
+fn random_cards(random: &mut Random, rows: &mut Rows) {
+    for _ in 0..SOUND {
+        let draft = short_network(random);
+        rows.judge(&Net::<3>(generate::lengthened(random, draft)), OK);
+        rows.unknown(Kind::Network, 0, short_card(random));
+    }
+    for _ in 0..ONE_BYTE {
+        let network = short_network(random).in_version_3().bytes();
+        rows.unknown(Kind::Network, 0, change_one_byte(random, network));
+        let card = short_card(random);
+        rows.unknown(Kind::Network, 0, change_one_byte(random, card));
+    }
+    for _ in 0..2 * BROKEN {
+        rows.unknown(Kind::Network, 0, short_broken_card(random));
     }
 }
 
@@ -1254,6 +1518,7 @@ pub fn all() -> Vec<Row> {
     let mut random = Random::new(SEED);
     random_sheets_and_networks(&mut random, &mut rows);
     random_logs(&mut random, &mut rows);
+    random_cards(&mut random, &mut rows);
     let mut seen = HashSet::new();
     rows.rows.retain(|row| seen.insert(row.frame.clone()));
     rows.rows

@@ -1,8 +1,9 @@
 //! The frames of `sheet_cases`: bytes to be read as a sheet, a network or a log. See CASES.md.
 
-use crate::frames::{read_all, take};
+use crate::frames::take;
 use crate::machine::Places;
 use crate::network::Network;
+use crate::pages;
 use crate::refusal::Refusal;
 use crate::run;
 use crate::sheet::Sheet;
@@ -61,9 +62,9 @@ pub fn records(count: usize) -> String {
     format!("records {count}")
 }
 
-/// Reads frames to the end of the bytes; `None` where they do not fill it exactly.
+/// Reads the frames of all pages; `None` where something else stands in one.
 pub fn read_frames(bytes: &[u8]) -> Option<Vec<Frame>> {
-    read_all(bytes, read_frame)
+    pages::read(bytes, read_frame)
 }
 
 fn read_frame(rest: &mut &[u8]) -> Option<Frame> {

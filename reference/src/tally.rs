@@ -3,13 +3,13 @@
 use crate::deciding::{self, named, of_log, of_steps};
 use crate::engine::Engine;
 use crate::generate::{self, RunCase};
-use crate::network::Network;
+use crate::network::{Network, Version};
 use crate::program::{self, MOST_INPUT};
 use crate::random::Random;
 use crate::run::{read_log, run_network, run_sheet, Outcome, Record};
 use crate::sheet::{Sheet, LONGEST_SHEET};
 use crate::state::{Cause, Common, NetworkState, SheetState, Verdict};
-use crate::translate::translate;
+use crate::translate::{translate_card, translate_to, CARD_BUFFER};
 use crate::Refusal;
 use std::collections::BTreeMap;
 
@@ -94,6 +94,37 @@ pub fn wanted() -> Vec<String> {
     labels.push("input: no room for another record".into());
     labels.push("translation: refused 19".into());
     labels.push("translation: done".into());
+    labels.extend(wanted_of_version_3());
+    labels
+}
+
+/// Of runs on networks of version 3, which sheets give or none does, and of writing them.
+pub fn wanted_of_version_3() -> Vec<String> {
+    let mut labels = Vec::new();
+    for run in ["card run", "version 3 run"] {
+        for text in [
+            "violated by state",
+            "violated by triple",
+            "violated by both",
+            "clean, calls open",
+            "clean, none open",
+            "refused 16",
+            "refused 17",
+            "refused 18",
+            "refused 11 at a record",
+            "refused 13 at a record",
+            "refused 15 at a record",
+        ] {
+            labels.push(format!("{run}: {text}"));
+        }
+    }
+    for number in [1, 4, 5, 6, 7] {
+        labels.push(format!("version 3 run: refused {number:02}"));
+    }
+    for number in (1..=8).chain([19, 21]) {
+        labels.push(format!("card: refused {number:02}"));
+    }
+    labels.push("card: done".into());
     labels
 }
 
@@ -128,9 +159,12 @@ pub fn tally(seed: u64, count: usize) -> Result<Tally, String> {
     for _ in 0..count {
         let case = generate::run_case(&mut random);
         count_run(&case, &mut tally)?;
+        count_card_run(&case, &mut tally)?;
         count_network_run(&mut random, &case, &mut tally);
         count_events(&mut random, &case, &mut tally);
-        count_translation(&mut random, &case.sheet, &mut tally)?;
+        for version in [Version::Two, Version::Three] {
+            count_translation(&mut random, version, &case.sheet, &mut tally)?;
+        }
     }
     Ok(tally)
 }
@@ -157,6 +191,25 @@ fn count_run(case: &RunCase, tally: &mut Tally) -> Result<(), String> {
     Ok(())
 }
 
+/// The run on the sheet's network of version 3, where it has one.
+fn count_card_run(case: &RunCase, tally: &mut Tally) -> Result<(), String> {
+    let mut buffer = vec![0; CARD_BUFFER];
+    let Ok(length) = translate_card(&case.sheet, &mut buffer) else {
+        return Ok(());
+    };
+    let (sheet, card) = (
+        run_sheet(&case.sheet, &case.log),
+        run_network(&buffer[..length], &case.log),
+    );
+    tally.add(format!("card run: {}", outcome_label(&card)));
+    if sheet != card {
+        return Err(format!(
+            "the sheet's run gives {sheet}, that of version 3 {card}"
+        ));
+    }
+    Ok(())
+}
+
 /// What decides in the sheet's run and in that of its network.
 pub fn of_input(sheet: &[u8], log: &[u8]) -> Vec<String> {
     let Ok(sheet) = Sheet::read(sheet) else {
@@ -171,6 +224,9 @@ fn count_network_run(random: &mut Random, case: &RunCase, tally: &mut Tally) {
     let own = generate::network_case(random, &case.log);
     let outcome = run_network(&own.network, &own.log);
     tally.add(format!("network run: {}", outcome_label(&outcome)));
+    if own.network.get(2) == Some(&3) {
+        tally.add(format!("version 3 run: {}", outcome_label(&outcome)));
+    }
     if let Ok(network) = Network::read(&own.network) {
         tally.add_all(named("network", "run", of_log(&network, &own.log)));
     }
@@ -286,26 +342,33 @@ fn change_network_state(random: &mut Random, change: usize, state: &mut NetworkS
 // ---- Translating ------------------------------------------------------------------------------
 
 /// Translates into a buffer that is sometimes too short, and looks at every byte of it.
-fn count_translation(random: &mut Random, sheet: &[u8], tally: &mut Tally) -> Result<(), String> {
+fn count_translation(
+    random: &mut Random,
+    version: Version,
+    sheet: &[u8],
+    tally: &mut Tally,
+) -> Result<(), String> {
     const FILL: u8 = 0xA5;
-    let Ok(read) = Sheet::read(sheet) else {
-        return Ok(());
+    let network = Sheet::read(sheet).map(|sheet| sheet.translate());
+    let (name, network) = match version {
+        Version::Two => ("translation", network),
+        Version::Three => ("card", network.map(|network| network.separated())),
     };
-    let whole = read.translate().bytes();
+    let whole = network.map_or(Vec::new(), |network| network.bytes());
     let length = match random.below(4) {
         0 => random.below(whole.len()),
-        1 => whole.len() - 1,
+        1 => whole.len().saturating_sub(1),
         2 => whole.len(),
-        _ => crate::translate::BUFFER,
+        _ => whole.len() + 300,
     };
     let mut buffer = vec![FILL; length];
-    let answer = translate(sheet, &mut buffer);
-    tally.add(format!("translation: {}", answer_label(&answer, "done")));
+    let answer = translate_to(version, sheet, &mut buffer);
+    tally.add(format!("{name}: {}", answer_label(&answer, "done")));
     let written = answer.unwrap_or(0);
     let right = buffer[..written] == whole[..written];
     let untouched = buffer[written..].iter().all(|byte| *byte == FILL);
-    let accepted = Network::read(&whole).is_ok();
-    if right && untouched && accepted && written <= whole.len() {
+    let accepted = answer.is_err() || Network::read(&whole).is_ok();
+    if right && untouched && accepted && (written == 0 || written == whole.len()) {
         Ok(())
     } else {
         Err("a translation is wrong, or wrote past its end".into())

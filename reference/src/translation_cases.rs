@@ -1,14 +1,16 @@
 //! The cases of the program `translation_cases`: chosen sheets, random ones from a fixed seed, and
-//! sheets that are refused, each with several buffers.
+//! sheets that are refused, each with several buffers, in both versions of networks.
 
 use crate::draft::SheetDraft;
 use crate::expr::LONGEST;
 use crate::generate::{self, Size};
 use crate::machine::Kind;
+use crate::network::Version;
 use crate::random::Random;
+use crate::rival_sheets;
 use crate::sheet::Sheet;
 use crate::sheet_cases::{NETWORK_A, SHEET_A};
-use crate::translate::BUFFER;
+use crate::translate::{translate_to, BUFFER, CARD_BUFFER};
 use crate::translation_frames::{Frame, Room};
 use std::collections::HashSet;
 use std::ops::Range;
@@ -40,28 +42,28 @@ fn with_triples(states: u8, units: u8, places: &[(u8, u8)]) -> SheetDraft {
 }
 
 /// A condition of this length: `not` over and over, then `true`.
-fn nots(length: usize) -> Vec<u8> {
+pub(crate) fn nots(length: usize) -> Vec<u8> {
     let mut bytes = vec![1; length];
     bytes[length - 1] = 0;
     bytes
 }
 
 /// An action of 64 bytes: variable 0 becomes itself, 19 times by three bytes and once by seven.
-fn long_action() -> Vec<u8> {
+pub(crate) fn long_action() -> Vec<u8> {
     let mut bytes = [0, 18, 0].repeat(19);
     bytes.extend([0, 22, 0, 18, 0, 18, 0]);
     bytes
 }
 
 /// A condition of 64 bytes, another for each number.
-fn numbered_condition(number: u8) -> Vec<u8> {
+pub(crate) fn numbered_condition(number: u8) -> Vec<u8> {
     let mut bytes = vec![1; LONGEST - 11];
     bytes.extend([5, 16, number, 0, 255, number, 16, 128, number, 1, 2]);
     bytes
 }
 
 /// An action of 64 bytes, another for each number.
-fn numbered_action(number: u8) -> Vec<u8> {
+pub(crate) fn numbered_action(number: u8) -> Vec<u8> {
     let mut bytes = long_action();
     bytes[..6].copy_from_slice(&[number % 4, 16, 0, number, 255, number]);
     bytes
@@ -192,7 +194,7 @@ fn around_256(sheets: &mut Vec<SheetDraft>) {
         let mut draft = with_triples(2, 1, &[(0, 0), (1, 0), (0, 0)]);
         let filler = [LONGEST, LONGEST, 30].map(nots);
         draft.front.conditions.extend(filler);
-        let others = network_length(&draft.bytes()) + 1;
+        let others = network_length(Version::Two, &draft.bytes()).unwrap_or(0) + 1;
         draft.front.conditions.push(nots(length - others));
         sheets.push(draft);
     }
@@ -295,8 +297,9 @@ fn refused_sheets(random: &mut Random) -> Vec<Vec<u8>> {
 
 // ---- Buffers ----------------------------------------------------------------------------------
 
-fn network_length(sheet: &[u8]) -> usize {
-    Sheet::read(sheet).map_or(0, |sheet| sheet.translate().bytes().len())
+/// `None` where a buffer of any length is refused.
+fn network_length(version: Version, sheet: &[u8]) -> Option<usize> {
+    translate_to(version, sheet, &mut vec![0; CARD_BUFFER]).ok()
 }
 
 fn room(length: usize, seed: u8) -> Room {
@@ -308,11 +311,10 @@ fn room(length: usize, seed: u8) -> Room {
 
 /// As long as the network; one byte shorter; none; much longer, with a pattern that differs from
 /// the first at every place, so that a byte left out shows; and sometimes any shorter length.
-fn rooms_of_accepted(random: &mut Random, sheet: &[u8]) -> Vec<Room> {
-    let network = network_length(sheet);
+fn rooms_of_accepted(random: &mut Random, network: usize) -> Vec<Room> {
     let seed = random.byte();
     let more = random.pick(&[1, 30, 60, 100, 250]);
-    let longer = (network + more).min(BUFFER);
+    let longer = (network + more).min(CARD_BUFFER);
     let mut rooms = vec![
         room(network, seed),
         room(network - 1, random.byte()),
@@ -334,29 +336,75 @@ fn rooms_of_refused(random: &mut Random) -> Vec<Room> {
     ]
 }
 
-/// All the frames. No sheet comes twice.
-pub fn all() -> Vec<Frame> {
-    let mut random = Random::new(SEED);
-    let mut sheets = chosen();
-    sheets.extend(random_sheets(&mut random));
-    sheets.extend(refused_sheets(&mut random));
-    let mut seen = HashSet::new();
-    sheets.retain(|sheet| seen.insert(sheet.clone()));
-    let mut frames: Vec<Frame> = Vec::new();
-    for sheet in sheets {
-        let rooms = match Sheet::read(&sheet) {
-            Ok(_) => rooms_of_accepted(&mut random, &sheet),
-            Err(_) => rooms_of_refused(&mut random),
-        };
-        frames.push(Frame { sheet, rooms });
+/// Refused 21: as many bytes as the network would have if it were written, where two bytes can say
+/// that; then as for other refused sheets.
+fn rooms_of_too_long(random: &mut Random, sheet: &Sheet) -> Vec<Room> {
+    let length = sheet.translate().separated().bytes().len();
+    let mut rooms = vec![room(length.min(CARD_BUFFER), random.byte())];
+    rooms.extend(rooms_of_refused(random));
+    rooms
+}
+
+// ---- All --------------------------------------------------------------------------------------
+
+fn frame(random: &mut Random, version: Version, sheet: Vec<u8>) -> Frame {
+    let rooms = match (network_length(version, &sheet), Sheet::read(&sheet)) {
+        (Some(network), _) => rooms_of_accepted(random, network),
+        (None, Ok(sheet)) => rooms_of_too_long(random, &sheet),
+        (None, Err(_)) => rooms_of_refused(random),
+    };
+    Frame {
+        version,
+        sheet,
+        rooms,
     }
-    // The whole buffer, also where more is asked for than the program has.
-    for (number, length) in [(0, BUFFER), (1, usize::from(u16::MAX))] {
-        frames[number].rooms.push(room(length, random.byte()));
-    }
+}
+
+/// Whole buffers: of the length that is enough for any sheet in version 2, and of any length.
+fn add_whole_buffers(random: &mut Random, frames: &mut [Frame]) {
     let greatest = greatest().bytes();
+    let lengths = [BUFFER, CARD_BUFFER];
+    for (frame, length) in frames.iter_mut().zip(lengths) {
+        frame.rooms.push(room(length, random.byte()));
+    }
     for frame in frames.iter_mut().filter(|frame| frame.sheet == greatest) {
         frame.rooms.push(room(BUFFER, random.byte()));
     }
+}
+
+/// For about half of the sheets, as long as the network of version 2, which is too short for version 3.
+fn add_shorter_buffers(random: &mut Random, frames: &mut [Frame]) {
+    for frame in frames.iter_mut().filter(|_| random.chance(1, 2)) {
+        let written = network_length(frame.version, &frame.sheet).is_some();
+        if let (true, Some(length)) = (written, network_length(Version::Two, &frame.sheet)) {
+            frame.rooms.push(room(length, length as u8));
+        }
+    }
+}
+
+/// All the frames. No sheet comes twice in one version.
+pub fn all() -> Vec<Frame> {
+    let mut random = Random::new(SEED);
+    let (chosen, random_ones) = (chosen(), random_sheets(&mut random));
+    let refused = refused_sheets(&mut random);
+    let rivals = rival_sheets::all().iter().map(SheetDraft::bytes).collect();
+    let longest = vec![rival_sheets::longest().bytes()];
+    let third = random_ones.iter().step_by(3).cloned().collect();
+    let plain = [chosen.clone(), random_ones, refused.clone()].concat();
+    let card = [chosen, third, refused, rivals, longest].concat();
+    let mut frames = frames_of(&mut random, Version::Two, plain);
+    add_whole_buffers(&mut random, &mut frames);
+    let mut cards = frames_of(&mut random, Version::Three, card);
+    add_whole_buffers(&mut random, &mut cards);
+    add_shorter_buffers(&mut random, &mut cards);
+    frames.extend(cards);
     frames
+}
+
+/// A frame for each of the sheets that are different.
+fn frames_of(random: &mut Random, version: Version, mut sheets: Vec<Vec<u8>>) -> Vec<Frame> {
+    let mut seen = HashSet::new();
+    sheets.retain(|sheet| seen.insert(sheet.clone()));
+    let sheets = sheets.into_iter();
+    sheets.map(|sheet| frame(random, version, sheet)).collect()
 }

@@ -1,12 +1,14 @@
-//! The frames of `translation_cases`: a sheet, and the buffers it is translated into. See CASES.md.
+//! The frames of `translation_cases`: a sheet, the version of network that it is translated to, and
+//! the buffers it is translated into. See CASES.md.
 
-use crate::frames::{read_all, take};
-use crate::translate::{translate, BUFFER};
+use crate::frames::take;
+use crate::network::Version;
+use crate::pages;
+use crate::translate::translate_to;
 
 /// A buffer as it is lent.
 #[derive(Clone, Copy, Debug, PartialEq, Eq, Hash)]
 pub struct Room {
-    /// As the frame says; the program has no more than `BUFFER`.
     pub length: u16,
     pub seed: u8,
 }
@@ -14,14 +16,14 @@ pub struct Room {
 impl Room {
     /// The buffer before the call. Each byte is 7 more than the one before it.
     pub fn bytes(self) -> Vec<u8> {
-        let length = usize::from(self.length).min(BUFFER);
         let byte = |place: usize| (usize::from(self.seed) + 7 * place) as u8;
-        (0..length).map(byte).collect()
+        (0..self.length.into()).map(byte).collect()
     }
 }
 
 #[derive(Clone, Debug, PartialEq, Eq, Hash)]
 pub struct Frame {
+    pub version: Version,
     /// At most 65,535.
     pub sheet: Vec<u8>,
     /// At most 255.
@@ -30,6 +32,7 @@ pub struct Frame {
 
 impl Frame {
     pub fn write(&self, out: &mut Vec<u8>) {
+        out.push(self.version.byte());
         out.extend((self.sheet.len() as u16).to_be_bytes());
         out.extend(&self.sheet);
         out.push(self.rooms.len() as u8);
@@ -41,32 +44,32 @@ impl Frame {
 
     /// The expected lines, one for each buffer, without their newlines.
     pub fn lines(&self) -> Vec<String> {
-        let line = |room: &Room| line(&self.sheet, *room);
-        self.rooms.iter().map(line).collect()
+        self.rooms.iter().map(|room| self.line(*room)).collect()
     }
-}
 
-fn line(sheet: &[u8], room: Room) -> String {
-    let mut buffer = room.bytes();
-    let mut line = match translate(sheet, &mut buffer) {
-        Ok(length) => format!("written {length}"),
-        Err(refusal) => refusal.to_string(),
-    };
-    if !buffer.is_empty() {
-        line.push(' ');
-        for byte in buffer {
-            line.push_str(&format!("{byte:02x}"));
+    fn line(&self, room: Room) -> String {
+        let mut buffer = room.bytes();
+        let mut line = match translate_to(self.version, &self.sheet, &mut buffer) {
+            Ok(length) => format!("written {length}"),
+            Err(refusal) => refusal.to_string(),
+        };
+        if !buffer.is_empty() {
+            line.push(' ');
+            for byte in buffer {
+                line.push_str(&format!("{byte:02x}"));
+            }
         }
+        line
     }
-    line
 }
 
-/// Reads frames to the end of the bytes; `None` where they do not fill it exactly.
+/// Reads the frames of all pages; `None` where something else stands in one.
 pub fn read_frames(bytes: &[u8]) -> Option<Vec<Frame>> {
-    read_all(bytes, read_frame)
+    pages::read(bytes, read_frame)
 }
 
 fn read_frame(rest: &mut &[u8]) -> Option<Frame> {
+    let version = Version::from_byte(take(rest, 1)?[0])?;
     let length = take(rest, 2)?;
     let length = usize::from(u16::from_be_bytes([length[0], length[1]]));
     let sheet = take(rest, length)?.to_vec();
@@ -79,5 +82,9 @@ fn read_frame(rest: &mut &[u8]) -> Option<Frame> {
             seed: room[2],
         });
     }
-    Some(Frame { sheet, rooms })
+    Some(Frame {
+        version,
+        sheet,
+        rooms,
+    })
 }

@@ -3,6 +3,7 @@
 use reference::condition_cases;
 use reference::expr::{self, Lent};
 use reference::frames::{read_frames, Kind};
+use reference::pages::PAGE;
 use reference::programs;
 use reference::Refusal;
 
@@ -33,7 +34,7 @@ fn the_file_is_large_enough_and_small_enough() {
     let files = programs::files("condition_cases").expect("the program is in the table");
     let frames = read_frames(&files.stdin).expect("frames fill the file");
     assert!(frames.len() >= 600, "{} cases", frames.len());
-    assert!(files.stdin.len() <= 60_000, "{} bytes", files.stdin.len());
+    assert!(files.stdin.len() <= 6 * PAGE, "{}", files.stdin.len());
     let lines = files.stdout.split(|b| *b == b'\n').count() - 1;
     assert_eq!(frames.len(), lines);
     for frame in &frames {

@@ -10,7 +10,7 @@ use reference::program::split;
 use reference::run::write_log;
 use reference::script::{entry, exit};
 use reference::sheet::Sheet;
-use reference::tally::{of_input, wanted, Tally};
+use reference::tally::{of_input, wanted, wanted_of_version_3, Tally};
 use reference::{monitor_cases, network_cases, program_cases};
 
 fn assert_none_missing(tally: &Tally, wanted: impl Iterator<Item = String>) {
@@ -118,6 +118,56 @@ const OF_EVENTS: [&str; 7] = [
     "the last variable decides the state",
     "the last variable decides a variable",
 ];
+
+/// What the generator must make of version 3.
+const OF_VERSION_3: [&str; 38] = [
+    "card run: violated by state",
+    "card run: violated by triple",
+    "card run: violated by both",
+    "card run: clean, calls open",
+    "card run: clean, none open",
+    "card run: refused 16",
+    "card run: refused 17",
+    "card run: refused 18",
+    "card run: refused 11 at a record",
+    "card run: refused 13 at a record",
+    "card run: refused 15 at a record",
+    "version 3 run: violated by state",
+    "version 3 run: violated by triple",
+    "version 3 run: violated by both",
+    "version 3 run: clean, calls open",
+    "version 3 run: clean, none open",
+    "version 3 run: refused 16",
+    "version 3 run: refused 17",
+    "version 3 run: refused 18",
+    "version 3 run: refused 11 at a record",
+    "version 3 run: refused 13 at a record",
+    "version 3 run: refused 15 at a record",
+    "version 3 run: refused 01",
+    "version 3 run: refused 04",
+    "version 3 run: refused 05",
+    "version 3 run: refused 06",
+    "version 3 run: refused 07",
+    "card: refused 01",
+    "card: refused 02",
+    "card: refused 03",
+    "card: refused 04",
+    "card: refused 05",
+    "card: refused 06",
+    "card: refused 07",
+    "card: refused 08",
+    "card: refused 19",
+    "card: refused 21",
+    "card: done",
+];
+
+#[test]
+fn version_3_is_wanted() {
+    assert_eq!(wanted_of_version_3(), OF_VERSION_3);
+    let tallied = wanted();
+    let label = |label: &&str| tallied.iter().any(|wanted| wanted == label);
+    assert!(OF_VERSION_3.iter().all(label));
+}
 
 #[test]
 fn all_of_it_is_wanted() {

@@ -2,6 +2,7 @@
 
 mod scripts;
 
+use reference::card_cases;
 use reference::engine::network_event;
 use reference::expr::Lent;
 use reference::network::{Creating, Network, LONGEST_NETWORK};
@@ -51,6 +52,7 @@ fn every_sort_of_case_occurs_often() {
             (Sort::Checkers, 100),
             (Sort::Nesting, 40),
             (Sort::Wide, 1_000),
+            (Sort::Card, 600),
         ],
     );
     let logs = count(pages, |row, _| is_run(row));
@@ -135,6 +137,18 @@ fn the_greatest_network_occurs_once() {
     let longest =
         |row: &&Row<Checkers>| matches!(&row.frame, Frame::Rules(n) if n.len() == LONGEST_NETWORK);
     assert_eq!(pages().iter().flatten().filter(longest).count(), 1);
+}
+
+/// Joining conditions changes no answer and no state.
+#[test]
+fn in_version_3_the_lines_are_the_same() {
+    let first = &pages()[0];
+    let carried_over = card_cases::page_in_version_3(first);
+    let joined =
+        |row: &&Row<Checkers>| matches!(&row.frame, Frame::Rules(n) if n.get(2) == Some(&3));
+    assert!(carried_over.iter().filter(joined).count() >= 40);
+    let lines = |page: &Page| page.iter().map(|row| row.line.clone()).collect::<Vec<_>>();
+    assert_eq!(lines(first), lines(&carried_over));
 }
 
 // ---- What the cases hold of networks ----------------------------------------------------------

@@ -1,18 +1,20 @@
 //! The proved library, by way of its static library, beside the reference on generated inputs; and
-//! the example in C. Only under the feature `embed`.
+//! the programs in C. Only under the feature `embed`.
 
 mod places;
 
 use places::directory;
-use reference::generate::{network_case, run_case, RunCase};
+use reference::generate::{damaged, network_case, run_case, RunCase};
+use reference::network::Version;
 use reference::program::{output, MOST_INPUT};
 use reference::proved::{self, numbered, Answer};
 use reference::random::Random;
+use reference::rival_sheets;
 use reference::run::{run_network, run_sheet, Outcome};
 use reference::sheet::{Sheet, LONGEST_SHEET};
 use reference::sheet_cases::{LOG_A, SHEET_A};
 use reference::tally::SEED;
-use reference::translate::{translate, BUFFER};
+use reference::translate::{translate, translate_to, BUFFER, CARD_BUFFER};
 use reference::workloads;
 use std::fs;
 use std::path::{Path, PathBuf};
@@ -51,13 +53,25 @@ fn runs_on_sheets() {
     codes.assert_many();
 }
 
-/// Half of the networks are translated from a sheet, half are the generator's own.
+/// Half of the networks are translated from a sheet, half are the generator's own, of either version.
 #[test]
 fn runs_on_networks() {
     let mut random = Random::new(SEED + 1);
+    compare_runs(|number| any_network(&mut random, number));
+}
+
+/// Each network is that of a sheet, one in four of them damaged; or the generator's own.
+#[test]
+fn runs_on_networks_of_version_3() {
+    let mut random = Random::new(SEED + 5);
+    compare_runs(|number| any_card(&mut random, number));
+}
+
+/// Runs the log that is made for each number on the network that is made with it.
+fn compare_runs(mut make: impl FnMut(usize) -> (Vec<u8>, Vec<u8>)) {
     let mut codes = Codes::default();
     for number in 0..INPUTS {
-        let (network, log) = any_network(&mut random, number);
+        let (network, log) = make(number);
         let answer = proved::run_network(&network, &log);
         let expected = numbered(run_network(&network, &log));
         assert_eq!(answer, expected, "input {number}");
@@ -68,49 +82,76 @@ fn runs_on_networks() {
 
 fn any_network(random: &mut Random, number: usize) -> (Vec<u8>, Vec<u8>) {
     let RunCase { sheet, log } = run_case(random);
-    let mut network = vec![0; BUFFER];
-    match translate(&sheet, &mut network) {
-        Ok(length) if number.is_multiple_of(2) => {
-            network.truncate(length);
-            (network, log)
-        }
-        _ => {
-            let own = network_case(random, &log);
-            (own.network, own.log)
-        }
+    match translated(Version::Two, &sheet) {
+        Some(network) if number.is_multiple_of(2) => (network, log),
+        _ => own_network(random, &log),
     }
+}
+
+fn any_card(random: &mut Random, number: usize) -> (Vec<u8>, Vec<u8>) {
+    let RunCase { sheet, log } = run_case(random);
+    match translated(Version::Three, &sheet) {
+        Some(card) if number % 4 == 3 => (damaged(random, card), log),
+        Some(card) => (card, log),
+        None => loop {
+            let (network, log) = own_network(random, &log);
+            if network.get(2) == Some(&3) {
+                return (network, log);
+            }
+        },
+    }
+}
+
+fn translated(version: Version, sheet: &[u8]) -> Option<Vec<u8>> {
+    let mut network = vec![0; CARD_BUFFER];
+    let length = translate_to(version, sheet, &mut network).ok()?;
+    network.truncate(length);
+    Some(network)
+}
+
+fn own_network(random: &mut Random, log: &[u8]) -> (Vec<u8>, Vec<u8>) {
+    let own = network_case(random, log);
+    (own.network, own.log)
 }
 
 // ---- Translating ------------------------------------------------------------------------------
 
+/// Each sheet is translated to both versions.
 #[test]
 fn translations() {
     let mut random = Random::new(SEED + 2);
-    let mut answers = [0; 20];
+    let mut answers = [[0; 22]; 2];
     for number in 0..INPUTS {
         let sheet = run_case(&mut random).sheet;
-        let mut expected = vec![FILL; BUFFER];
-        let whole = translate(&sheet, &mut expected).unwrap_or(0);
-        let room = match random.below(4) {
-            0 => random.below(whole),
-            1 => whole.saturating_sub(1),
-            2 => whole,
-            _ => BUFFER,
-        };
-        answers[compare_translation(&sheet, room, number)] += 1;
+        for (version, answers) in VERSIONS.into_iter().zip(&mut answers) {
+            let whole = translated(version, &sheet).map_or(0, |network| network.len());
+            let room = match random.below(4) {
+                0 => random.below(whole),
+                1 => whole.saturating_sub(1),
+                2 => whole,
+                _ => random.pick(&[BUFFER, BUFFER, CARD_BUFFER]),
+            };
+            answers[compare_translation(version, &sheet, room, number)] += 1;
+        }
     }
-    // 0 is done; 9 to 18 are no refusals of a sheet.
-    let met = |answer: &usize| answers[*answer] >= 50;
-    assert!((0..9).chain([19]).all(|n| met(&n)), "{answers:?}");
+    // 0 is done; 9 to 18 and 20 are no refusals of a sheet, and 21 is one of version 3.
+    for (answers, own) in answers.iter().zip([None, Some(21)]) {
+        let met = |answer: &usize| answers[*answer] >= 50;
+        let all = (0..9).chain([19]).chain(own);
+        assert!(all.clone().all(|n| met(&n)), "{answers:?}");
+        assert_eq!(all.map(|n| answers[n]).sum::<usize>(), INPUTS);
+    }
 }
 
+const VERSIONS: [Version; 2] = [Version::Two, Version::Three];
+
 /// Compares the answer, every byte of the buffer and the size; gives the answer.
-fn compare_translation(sheet: &[u8], room: usize, number: usize) -> usize {
+fn compare_translation(version: Version, sheet: &[u8], room: usize, number: usize) -> usize {
     let unchanged = 0xA5A5_A5A5;
     let (mut out, mut size) = (vec![FILL; room], unchanged);
-    let answer = proved::translate(sheet, &mut out, &mut size);
+    let answer = proved::translate(version, sheet, &mut out, &mut size);
     let mut expected = vec![FILL; room];
-    let (code, length) = match translate(sheet, &mut expected) {
+    let (code, length) = match translate_to(version, sheet, &mut expected) {
         Ok(length) => (0, length),
         Err(refusal) => (refusal.number().into(), unchanged),
     };
@@ -192,23 +233,23 @@ fn the_benchmark_refuses_wrong_arguments() {
     }
 }
 
-// ---- The example in C -------------------------------------------------------------------------
+// ---- The programs in C ------------------------------------------------------------------------
 
 const TOP: &str = concat!(env!("CARGO_MANIFEST_DIR"), "/..");
 
-/// The example, built with `cc`; none where there is no `cc`.
-fn example(directory: &Path) -> Option<PathBuf> {
+/// A program of `embed/`, built with `cc`; none where there is no `cc`.
+fn build(name: &str, directory: &Path) -> Option<PathBuf> {
     if Command::new("cc").arg("--version").output().is_err() {
-        println!("there is no cc: the example was not built");
+        println!("there is no cc: {name} was not built");
         return None;
     }
-    let program = directory.join("example");
+    let program = directory.join(name);
     let top = Path::new(TOP);
     let built = Command::new("cc")
         .args(["-std=c99", "-O2", "-Wall", "-Wextra", "-Wpedantic"])
         .args(["-Werror", "-o"])
         .arg(&program)
-        .arg(top.join("embed/example.c"))
+        .arg(top.join(format!("embed/{name}.c")))
         .arg(top.join("target/staticlib/libembed.a"))
         .output()
         .expect("cc starts");
@@ -235,7 +276,7 @@ fn two_lines(sheet: &[u8], log: &[u8]) -> String {
 #[test]
 fn the_example_prints_the_program_s_lines() {
     let place = directory("example-lines");
-    let Some(program) = example(&place) else {
+    let Some(program) = build("example", &place) else {
         return;
     };
     let (sheet, log) = (place.join("sheet"), place.join("log"));
@@ -263,7 +304,7 @@ fn the_example_prints_the_program_s_lines() {
 #[test]
 fn the_example_says_what_is_wrong() {
     let place = directory("example-wrong");
-    let Some(program) = example(&place) else {
+    let Some(program) = build("example", &place) else {
         return;
     };
     let (sheet, missing) = (place.join("sheet"), place.join("missing"));
@@ -282,5 +323,50 @@ fn the_example_says_what_is_wrong() {
         assert!(said.stdout.is_empty());
         assert!(message.contains(text), "{message}");
         assert_eq!(message.lines().count(), 1, "{message}");
+    }
+}
+
+/// The program's standard input is a file.
+fn run_card(program: &Path, place: &Path, sheet: &[u8]) -> Output {
+    let input = place.join("sheet");
+    fs::write(&input, sheet).unwrap();
+    let mut command = Command::new(program);
+    command.stdin(fs::File::open(&input).unwrap());
+    command.output().expect("the program runs")
+}
+
+#[test]
+fn the_card_s_program_writes_version_3() {
+    let place = directory("card-program");
+    let Some(program) = build("card", &place) else {
+        return;
+    };
+    let mut buffer = vec![0; CARD_BUFFER];
+    let mut compare = |sheet: &[u8]| {
+        let said = run_card(&program, &place, sheet);
+        match translate_to(Version::Three, sheet, &mut buffer) {
+            Ok(length) => {
+                assert!(said.status.success() && said.stderr.is_empty());
+                assert_eq!(said.stdout, buffer[..length]);
+            }
+            Err(refusal) => {
+                assert_eq!(said.status.code(), Some(2));
+                assert_eq!(
+                    String::from_utf8_lossy(&said.stderr),
+                    format!("{refusal}\n")
+                );
+                assert!(said.stdout.is_empty());
+            }
+        }
+    };
+    compare(&SHEET_A);
+    compare(&[]);
+    compare(&vec![0; 70_000]);
+    for sheet in rival_sheets::all() {
+        compare(&sheet.bytes());
+    }
+    let mut random = Random::new(SEED + 6);
+    for _ in 0..200 {
+        compare(&run_case(&mut random).sheet);
     }
 }

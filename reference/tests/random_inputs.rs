@@ -12,7 +12,7 @@ use reference::run::{run_network, run_sheet, Record};
 use reference::sheet::{Sheet, LONGEST_SHEET};
 use reference::state::{NetworkState, SheetState};
 use reference::tally::{reach, tally, wanted, SEED};
-use reference::translate::{translate, BUFFER};
+use reference::translate::{translate, translate_card, BUFFER};
 
 /// Offers bytes to everything that takes bytes.
 fn offer(bytes: &[u8], random: &mut Random) {
@@ -33,6 +33,7 @@ fn offer(bytes: &[u8], random: &mut Random) {
     let _ = expr::evaluate_action(back, &lent);
     let mut buffer = [0; 300];
     let _ = translate(bytes, &mut buffer);
+    let _ = translate_card(bytes, &mut buffer);
     offer_events(bytes, random);
 }
 
@@ -65,7 +66,7 @@ fn random_bytes_do_not_panic() {
         if bytes.len() >= 14 && random.chance(3, 4) {
             bytes[0] = 0;
             bytes[1] = random.pick(&[length as u8, length as u8, length as u8 / 2]);
-            bytes[2] = random.pick(&[1, 2]);
+            bytes[2] = random.pick(&[1, 2, 3]);
             for byte in &mut bytes[3..14] {
                 *byte = random.below(5) as u8;
             }
@@ -101,7 +102,10 @@ fn damaged_sheets_and_logs_do_not_panic() {
 fn damaged_networks_do_not_panic() {
     let mut random = Random::new(13);
     for _ in 0..20_000 {
-        let draft = generate::network(&mut random, Size::Small);
+        let mut draft = generate::network(&mut random, Size::Small);
+        if random.chance(1, 2) {
+            draft = generate::lengthened(&mut random, draft);
+        }
         let mut bytes = draft.bytes();
         for _ in 0..random.between(1, 3) {
             bytes = generate::damaged(&mut random, bytes);
@@ -134,9 +138,12 @@ fn drafts_are_accepted_and_written_back() {
         assert!(network.len() <= BUFFER);
         let read = Network::read(&network).expect("a translation is a network");
         assert_eq!(read.bytes(), network);
-        let bytes = generate::network(&mut random, size).bytes();
-        let network = Network::read(&bytes).expect("a draft is a network");
-        assert_eq!(network.bytes(), bytes);
+        let draft = generate::network(&mut random, size);
+        let long = generate::lengthened(&mut random, draft.clone());
+        for bytes in [draft.bytes(), long.bytes()] {
+            let network = Network::read(&bytes).expect("a draft is a network");
+            assert_eq!(network.bytes(), bytes);
+        }
     }
 }
 

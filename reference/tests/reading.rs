@@ -1,6 +1,7 @@
 //! Reading sheets, networks and logs, through the cases of `sheet_cases`.
 
 use reference::network::{Network, LONGEST_NETWORK};
+use reference::pages::PAGE;
 use reference::programs;
 use reference::sheet::{Sheet, LONGEST_SHEET};
 use reference::sheet_cases::{self, Row};
@@ -23,7 +24,7 @@ fn chosen_cases_have_the_answers_written_beside_them() {
             None => without += 1,
         }
     }
-    assert!(without <= 16, "{without} chosen cases without an answer");
+    assert!(without <= 24, "{without} chosen cases without an answer");
 }
 
 #[test]
@@ -40,7 +41,7 @@ fn the_file_is_large_enough_and_small_enough() {
     let files = programs::files("sheet_cases").expect("the program is in the table");
     let frames = read_frames(&files.stdin).expect("frames fill the file");
     assert!(frames.len() >= 700, "{} cases", frames.len());
-    assert!(files.stdin.len() <= 65_000, "{} bytes", files.stdin.len());
+    assert!(files.stdin.len() <= 5 * PAGE, "{} bytes", files.stdin.len());
     let rows = sheet_cases::all();
     assert!(frames.iter().eq(rows.iter().map(|row| &row.frame)));
     let answers: String = frames.iter().map(|f| f.answer() + "\n").collect();
@@ -142,19 +143,48 @@ fn the_tables_begin_at_their_places() {
     }
 }
 
+fn version(row: &&Row) -> Option<u8> {
+    row.frame.bytes.get(2).copied()
+}
+
 #[test]
 fn the_greatest_occur_once_each() {
     let rows = sheet_cases::all();
-    for (kind, length) in [
-        (Kind::Sheet, LONGEST_SHEET),
-        (Kind::Network, LONGEST_NETWORK),
+    for (kind, number, length) in [
+        (Kind::Sheet, 1, LONGEST_SHEET),
+        (Kind::Network, 2, LONGEST_NETWORK),
+        (Kind::Network, 3, PAGE - 4),
     ] {
-        let long = rows
-            .iter()
-            .filter(|row| row.frame.kind == kind && row.frame.bytes.len() > 1_000);
-        let long: Vec<&Row> = long.collect();
-        assert_eq!(long.len(), 1);
-        assert_eq!(long[0].frame.bytes.len(), length);
-        assert!(places(&long[0].frame.answer()).is_some());
+        let of_kind = rows.iter().filter(|row| row.frame.kind == kind);
+        let accepted = of_kind.filter(|row| places(&row.frame.answer()).is_some());
+        let lengths = accepted.filter(|row| version(row) == Some(number));
+        let lengths: Vec<usize> = lengths.map(|row| row.frame.bytes.len()).collect();
+        assert_eq!(lengths.iter().max(), Some(&length));
+        assert_eq!(lengths.iter().filter(|one| **one == length).count(), 1);
+    }
+}
+
+/// What cases of version 3 must show, and how often at least; without regard to how they are made.
+const WANTED_OF_VERSION_3: [(&str, usize); 7] = [
+    ("accepted", 100),
+    ("refused 1", 30),
+    ("refused 3", 40),
+    ("refused 4", 80),
+    ("refused 5", 60),
+    ("refused 6", 60),
+    ("refused 7", 40),
+];
+
+#[test]
+fn every_answer_occurs_often_in_version_3() {
+    let rows = sheet_cases::all();
+    let networks = rows.iter().filter(|row| row.frame.kind == Kind::Network);
+    let cards: Vec<&Row> = networks.filter(|row| version(row) == Some(3)).collect();
+    println!("version 3: {}", cards.len());
+    for (answer, least) in WANTED_OF_VERSION_3 {
+        let found = cards.iter().map(|row| row.frame.answer());
+        let found = found.filter(|line| line.starts_with(answer)).count();
+        println!("{found:>6}  {answer}");
+        assert!(found >= least, "{answer}: {found}");
     }
 }

@@ -125,7 +125,7 @@ fn refusal_1_and_2() {
     for version in [0, 2, 255] {
         assert_eq!(sheet_answer(|d| d.front.version = version), Err(2));
     }
-    for version in [0, 1, 3] {
+    for version in [0, 1, 4] {
         assert_eq!(network_answer(|d| d.front.version = version), Err(2));
     }
     // 2 comes before 3.

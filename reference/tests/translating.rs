@@ -1,56 +1,36 @@
-//! Translating, through the cases of `translation_cases`.
+//! Translating, through the cases of `translation_cases`: their frames, and version 2.
+
+mod translations;
 
 use reference::expr::Condition;
 use reference::machine::{Kind, Transition};
-use reference::network::Network;
+use reference::network::Version;
+use reference::pages::PAGE;
 use reference::programs;
 use reference::sheet::{Sheet, LONGEST_SHEET};
-use reference::translate::BUFFER;
 use reference::translation_cases;
 use reference::translation_frames::{read_frames, Frame, Room};
-use std::collections::{BTreeMap, BTreeSet, HashSet};
+use std::collections::{BTreeSet, HashSet};
+use translations::{by_the_document, met, plain};
 
 /// Document 01's network of sheet A, as it is written there.
 const NETWORK_A: &str = "00 35 02 02 01 02 00 00 00 00 03 02 03 01 | 01 00 | 05 05 11 01 13 00 | 01 00 | 00 | 00 | 00 00 00 00 00 01 01 00 00 | 01 01 00 00 00 00 00 | 00 00 00 02 01 00 01 00 00 | 00 01";
-
-/// A line taken apart: the answer's word and number, and the buffer.
-fn parts(line: &str) -> (&str, usize, Vec<u8>) {
-    let mut words = line.split(' ');
-    let answer = words.next().expect("an answer");
-    let number = words.next().expect("a number").parse().expect("a number");
-    let digits = words.next().unwrap_or("");
-    let byte = |at: usize| u8::from_str_radix(&digits[at..at + 2], 16).expect("two digits");
-    let buffer = (0..digits.len()).step_by(2).map(byte).collect();
-    assert_eq!(words.next(), None);
-    (answer, number, buffer)
-}
-
-/// Every buffer with its sheet and line.
-fn calls(frames: &[Frame]) -> Vec<(&[u8], Room, String)> {
-    let mut calls = Vec::new();
-    for frame in frames {
-        for (room, line) in frame.rooms.iter().zip(frame.lines()) {
-            calls.push((&frame.sheet[..], *room, line));
-        }
-    }
-    calls
-}
 
 #[test]
 fn the_file_is_large_enough_and_small_enough() {
     let files = programs::files("translation_cases").expect("the program is in the table");
     let frames = read_frames(&files.stdin).expect("frames fill the file");
     assert_eq!(frames, translation_cases::all());
-    assert!(files.stdin.len() <= 65_000, "{} bytes", files.stdin.len());
-    assert!(files.stdout.len() <= 700_000, "{}", files.stdout.len());
+    assert!(files.stdin.len() <= 3 * PAGE, "{} bytes", files.stdin.len());
+    assert!(files.stdout.len() <= 3_000_000, "{}", files.stdout.len());
     let lines: String = frames
         .iter()
         .flat_map(Frame::lines)
         .map(|line| line + "\n")
         .collect();
     assert_eq!(lines.into_bytes(), files.stdout);
-    let different: HashSet<&[u8]> = frames.iter().map(|frame| &frame.sheet[..]).collect();
-    assert_eq!(different.len(), frames.len());
+    let sheets = frames.iter().map(|frame| (frame.version, &frame.sheet));
+    assert_eq!(sheets.collect::<HashSet<_>>().len(), frames.len());
 }
 
 #[test]
@@ -64,15 +44,20 @@ fn the_chosen_sheets_are_accepted() {
 fn frames_that_are_cut_are_no_frames() {
     let room = |length, seed| Room { length, seed };
     let frame = Frame {
+        version: Version::Three,
         sheet: vec![1, 2, 3],
         rooms: vec![room(258, 5), room(1, 255)],
     };
     let mut bytes = Vec::new();
     frame.write(&mut bytes);
-    assert_eq!(bytes, [0, 3, 1, 2, 3, 2, 1, 2, 5, 0, 1, 255]);
+    assert_eq!(bytes, [3, 0, 3, 1, 2, 3, 2, 1, 2, 5, 0, 1, 255]);
     assert_eq!(read_frames(&bytes), Some(vec![frame]));
     for length in 1..bytes.len() {
         assert_eq!(read_frames(&bytes[..length]), None);
+    }
+    for version in [0, 1, 4] {
+        bytes[0] = version;
+        assert_eq!(read_frames(&bytes), None);
     }
 }
 
@@ -82,123 +67,29 @@ fn the_pattern_of_a_buffer() {
     assert_eq!(room(4, 250).bytes(), [250, 1, 8, 15]);
     assert_eq!(room(0, 3).bytes(), []);
     let long = room(u16::MAX, 3).bytes();
-    assert_eq!(long, room(8_192, 3).bytes());
-    assert_eq!(long.len(), BUFFER);
-    assert_eq!(long[8_191], ((3 + 7 * 8_191) % 256) as u8);
+    assert_eq!(long.len(), 65_535);
+    assert_eq!(long[65_534], ((3 + 7 * 65_534) % 256) as u8);
 }
 
 #[test]
 fn the_network_of_sheet_a_is_the_document_s() {
-    let frames = translation_cases::all();
-    let lines = frames[0].lines();
-    assert_eq!(frames[0].sheet.len(), 39);
-    let digits = NETWORK_A.to_lowercase().replace([' ', '|'], "");
-    assert_eq!(lines[0], format!("written 53 {digits}"));
-    let (answer, _, buffer) = parts(&lines[1]);
-    assert_eq!((answer, buffer.len()), ("refused", 52));
-    assert_eq!(lines[2], "refused 19");
-    assert!(lines[3].starts_with(&lines[0]) && lines[3].len() > lines[0].len());
-    let whole = &lines[lines.len() - 1];
-    assert!(whole.starts_with(&lines[0]));
-    assert_eq!(parts(whole).2.len(), BUFFER);
-}
-
-/// The bytes of a sheet's network, put together from the sheet's bytes with the document beside.
-fn by_the_document(bytes: &[u8]) -> Vec<u8> {
-    let sheet = Sheet::read(bytes).expect("accepted");
-    let places = sheet.places();
-    let triples: Vec<&[u8]> = bytes[places.last..].chunks(4).collect();
-    let pairs = |state: u8, unit: u8| {
-        let numbered = (0u8..).zip(&triples);
-        let own = numbered.filter(|(_, t)| t[..2] == [state, unit]);
-        let pairs: Vec<[u8; 2]> = own.map(|(number, t)| [t[2], number]).collect();
-        [&[pairs.len() as u8][..], &pairs.concat()].concat()
-    };
-    let mut out = bytes[..14].to_vec();
-    out[2] = 2;
-    out[10] += 1;
-    out[11] += 1;
-    let conditions_end = after_conditions(bytes);
-    out.extend(&bytes[14..conditions_end]);
-    out.extend([1, 0]);
-    out.extend(&bytes[conditions_end..places.transitions]);
-    out.push(0);
-    let mut transitions = bytes[12];
-    for t in bytes[places.transitions..places.last].chunks(6) {
-        out.extend(t);
-        out.extend(if t[1] == 0 {
-            pairs(t[0], t[2])
-        } else {
-            vec![0]
-        });
-    }
-    for state in 0..bytes[3] {
-        for unit in 0..bytes[4] {
-            if pairs(state, unit).len() > 1 {
-                transitions += 1;
-                out.extend([state, 0, unit, bytes[10], bytes[11], state]);
-                out.extend(pairs(state, unit));
-            }
-        }
-    }
-    out[12] = transitions;
-    out.extend(triples.iter().flat_map(|t| [t[1], t[3]]));
-    let length = (out.len() as u16).to_be_bytes();
-    out[..2].copy_from_slice(&length);
-    out
-}
-
-/// Where the table of conditions ends.
-fn after_conditions(bytes: &[u8]) -> usize {
-    let first = 14 + 4 * usize::from(bytes[6]);
-    (0..bytes[10]).fold(first, |at, _| at + 1 + usize::from(bytes[at]))
+    translations::assert_network_of_a(Version::Two, NETWORK_A);
 }
 
 #[test]
 fn every_buffer_is_what_the_document_says() {
-    let frames = translation_cases::all();
-    for (sheet, room, line) in calls(&frames) {
-        let before = room.bytes();
-        let (answer, number, after) = parts(&line);
-        let refusal = match Sheet::read(sheet) {
-            Err(refusal) => Some(usize::from(refusal.number())),
-            Ok(_) if before.len() < by_the_document(sheet).len() => Some(19),
-            Ok(_) => None,
-        };
-        match refusal {
-            Some(refusal) => {
-                assert_eq!((answer, number), ("refused", refusal));
-                assert_eq!(after, before);
-            }
-            None => {
-                let network = by_the_document(sheet);
-                assert_eq!((answer, number), ("written", network.len()));
-                assert_eq!(after, [&network[..], &before[number..]].concat());
-                assert!(Network::read(&network).is_ok());
-            }
-        }
-    }
+    translations::assert_buffers(Version::Two, plain);
 }
 
-/// Each network stands in two buffers whose patterns differ at every place of it.
 #[test]
 fn a_byte_left_out_would_show() {
-    for frame in translation_cases::all() {
-        if Sheet::read(&frame.sheet).is_ok() {
-            let (first, second) = (frame.rooms[0], frame.rooms[3]);
-            assert!(second.length > first.length);
-            let pairs = first.bytes().into_iter().zip(second.bytes());
-            for (a, b) in pairs {
-                assert_ne!(a, b);
-            }
-        }
-    }
+    translations::assert_a_byte_left_out_would_show(Version::Two, plain);
 }
 
 // ---- Sorts ------------------------------------------------------------------------------------
 
 /// Every sort of sheet, buffer and answer, and how often it is to occur at least.
-const WANTED: [(&str, usize); 39] = [
+const WANTED: [(&str, usize); 40] = [
     ("accepted sheet", 300),
     ("refused sheet", 80),
     ("no triples", 20),
@@ -226,7 +117,8 @@ const WANTED: [(&str, usize); 39] = [
     ("buffer shorter", 40),
     ("buffer of 0 bytes", 300),
     ("buffer longer", 295),
-    ("buffer of 8,192 bytes", 3),
+    ("buffer of 8,192 bytes", 2),
+    ("buffer of 65,535 bytes", 1),
     ("buffer of a refused sheet", 240),
     ("written", 600),
     ("refused 19", 600),
@@ -239,11 +131,6 @@ const WANTED: [(&str, usize); 39] = [
     ("refused 7", 30),
     ("refused 8", 30),
 ];
-
-fn met(tests: &[(&'static str, bool)]) -> Vec<&'static str> {
-    let met = tests.iter().filter(|(_, met)| *met);
-    met.map(|(name, _)| *name).collect()
-}
 
 /// What a sheet's triples are like.
 fn sorts_of_triples(sheet: &Sheet) -> Vec<&'static str> {
@@ -317,42 +204,8 @@ fn sorts(bytes: &[u8]) -> Vec<&'static str> {
     sorts
 }
 
-fn sort_of_room(sheet: &[u8], room: Room) -> &'static str {
-    let length = room.bytes().len();
-    if Sheet::read(sheet).is_err() {
-        return "buffer of a refused sheet";
-    }
-    let network = by_the_document(sheet).len();
-    match length {
-        0 => "buffer of 0 bytes",
-        _ if length == network => "buffer exactly as long",
-        _ if length + 1 == network => "buffer one byte shorter",
-        _ if length < network => "buffer shorter",
-        BUFFER => "buffer of 8,192 bytes",
-        _ => "buffer longer",
-    }
-}
-
 #[test]
 fn every_sort_occurs_often() {
-    let frames = translation_cases::all();
-    let mut counts: BTreeMap<String, usize> = BTreeMap::new();
-    let mut add = |label: &str| *counts.entry(label.to_string()).or_insert(0) += 1;
-    for frame in &frames {
-        sorts(&frame.sheet).into_iter().for_each(&mut add);
-    }
-    for (sheet, room, line) in calls(&frames) {
-        add(sort_of_room(sheet, room));
-        match parts(&line) {
-            ("refused", number, _) => add(&format!("refused {number}")),
-            (answer, _, _) => add(answer),
-        }
-    }
-    for (label, least) in WANTED {
-        let found = counts.remove(label).unwrap_or(0);
-        println!("{found:>6}  {label}");
-        assert!(found >= least, "{label}: {found}");
-    }
-    // And no other sort.
-    assert!(counts.is_empty(), "{counts:?}");
+    let counts = translations::count_sorts(Version::Two, plain, sorts);
+    translations::assert_wanted(counts, &WANTED);
 }

@@ -6,12 +6,12 @@ use mathlib.Core.List.{List, [], _∷_, map}
 use Prim.Native.Nat.{ℕ, zero, suc, _≤_, _<_}
 use borrow.Author.Tests.{ltb-true}
 use lib.ListN.{length, take, length-map}
-use Rattle.sheet.specs.Parts.{Sheet, Network}
+use Rattle.sheet.specs.Parts.{Sheet}
 use Rattle.sheet.specs.Bytes.{byte}
 use Rattle.sheet.specs.Decode.{commonOf, sheetOf, networkOf}
-use Rattle.sheet.specs.Reading.{reading, networkLayout}
+use Rattle.sheet.specs.Reading.{reading, sheetLayout, networkLayout}
 use Rattle.sheet.specs.Log.{Event, logReading, eventsOf}
-use Rattle.sheet.proofs.Accepted.{Accepted, reading-accepted}
+use Rattle.sheet.proofs.Accepted.{Accepted, accepted, reading-accepted}
 use Rattle.sheet.proofs.Tests.{and-iff}
 use Rattle.step.specs.declared.Answer.{Answer}
 use Rattle.step.specs.Lists.{distinct}
@@ -20,8 +20,8 @@ use Rattle.step.specs.declared.Verdict.{Verdict}
 use Rattle.step.specs.declared.RunAnswer.the-variants.{Clean}
 use Rattle.step.specs.Runs.{Ran, unlessJudged, unlessRefusedAt, runFrom}
 use Rattle.step.specs.Answers.{answerOf, ranAnswer, unlessRefused}
-use Rattle.translation.specs.Translate.{extended, translate}
-use Rattle.translation.specs.Answer.{bufferOf}
+use Rattle.translation.specs.declared.Translated.the-variants.{Written}
+use Rattle.translation.specs.Answer.{translatedOf, bufferOf}
 use Rattle.monitor.specs.Monitor as Monitor
 use Rattle.monitor.specs.Monitor.{Armed}
 use Rattle.monitor.specs.Demand.{begun}
@@ -39,16 +39,18 @@ use Rattle.network.proofs.Living.{checkers-few}
 use Rattle.network.proofs.Views.{view-back}
 use Rattle.network.proofs.Soundness.{fresh-sound, offer-sound}
 use Rattle.network.proofs.Lasting.{answered, offered-pad}
-use Rattle.agreement.specs.Demand.{Followed, follow, defined, offeredTo, Shown, shownIn, shownBySheet, armedRow, shownByNetwork, Demand3, Exactly, ExactlyDue, SameRun}
+use Rattle.agreement.specs.Demand.{Followed, follow, defined, offeredTo, Shown, shownIn, shownBySheet, armedRow, shownByNetwork, Demand3, Exactly, ExactlyDue, SameRun, AsDefined}
+use Rattle.agreement.specs.Realises.{Realises}
 use Rattle.agreement.proofs.Mirror.{rowOf, mirror}
 use Rattle.agreement.proofs.Steps.{answer-same, state-same}
 use Rattle.translation.proofs.Cut.{sheet-accepted}
 use Rattle.agreement.proofs.Written.{network-accepted, network-translated}
+use Rattle.agreement.proofs.Translation.{translate-realises}
 use Rattle.agreement.proofs.Showing.{images, row-own, shown-same}
 use Rattle.agreement.proofs.Exact.{taken-list, once-held, one-due, due-one}
 
--- A network that is a sheet's translation.
-module _ (S : Sheet) {n : List ℕ} (a : Accepted networkLayout n) (d : networkOf n ≡ translate S) where
+-- An accepted network that realises a sheet.
+module _ (S : Sheet) {n : List ℕ} (a : Accepted networkLayout n) (r : Realises S (networkOf n)) where
   -- Where the mirrored state is sound on the network, its calls have different numbers and its main state is one of the sheet's.
   module _ (σ : Monitor.State) (h : sound (networkOf n) (mirror σ) ≡ true) where
     numbers-differ : distinct (map (λ (a : Armed). a .call .number) (σ .calls)) ≡ true
@@ -60,11 +62,11 @@ module _ (S : Sheet) {n : List ℕ} (a : Accepted networkLayout n) (d : networkO
     row-few = checkers-few (networkOf n) (mirror σ) h
 
     main-below : σ .configuration .main < S .common .states
-    unfolding sound mirror translate extended
-    main-below = let (m, rest) = simp and-iff at (subst (λ (N : Network). sound N (mirror σ) ≡ true) d h) in ltb-true _ _ m
+    unfolding sound mirror
+    main-below = let (m, rest) = simp and-iff at h in rw (← r .states) (ltb-true _ _ m)
 
     next-state : (e : Event) → Net.offer (networkOf n) (mirror σ) e .state ≡ mirror (Monitor.offer S σ e .state)
-    next-state e = rw d (state-same S σ e numbers-differ main-below)
+    next-state e = state-same S (networkOf n) r σ e numbers-differ main-below
 
     next-sound : (e : Event) → sound (networkOf n) (mirror (Monitor.offer S σ e .state)) ≡ true
     next-sound e = subst (λ (τ : Net.State). sound (networkOf n) τ ≡ true) (next-state e) (offer-sound a (mirror σ) e h)
@@ -72,7 +74,7 @@ module _ (S : Sheet) {n : List ℕ} (a : Accepted networkLayout n) (d : networkO
     -- One event, as the operation sees it.
     offered-same : (e : Event) → offerOf n (pad (mirror σ)) e ≡ answered (answerOf (Monitor.offer S σ e .answer)) (pad (mirror (Monitor.offer S σ e .state)))
     offered-same e =
-        let answer : Net.offer (networkOf n) (mirror σ) e .answer ≡ Monitor.offer S σ e .answer = rw d (answer-same S σ e) in
+        let answer : Net.offer (networkOf n) (mirror σ) e .answer ≡ Monitor.offer S σ e .answer = answer-same S (networkOf n) r σ e in
         offered-pad a (mirror σ) h e ∙ ap₂ (λ (x : ℕ) (τ : Net.State). answered (answerOf x) (pad τ)) answer (next-state e)
 
   abbrev onSheet : Monitor.State → List Event → Followed Monitor.State
@@ -103,7 +105,7 @@ module _ (S : Sheet) {n : List ℕ} (a : Accepted networkLayout n) (d : networkO
   unfolding runFrom mirror
   runs-same [] i σ h = ap (Clean (σ .position) (σ .configuration .main)) (length-map (σ .calls) (λ (a : Armed). a .call))
   runs-same (e ∷ es) i σ h =
-      let answer : Net.offer (networkOf n) (mirror σ) e .answer ≡ Monitor.offer S σ e .answer = rw d (answer-same S σ e) in
+      let answer : Net.offer (networkOf n) (mirror σ) e .answer ≡ Monitor.offer S σ e .answer = answer-same S (networkOf n) r σ e in
       let rest = runs-same es (suc i) (Monitor.offer S σ e .state) (next-sound σ h e) in
       ap₂ (λ (x : ℕ) (τ : Net.State). ranAnswer OnNetwork.endsIn (unlessRefusedAt x i (unlessJudged (τ .verdict) (runFrom (Net.offer (networkOf n)) (λ τ. τ .verdict) (suc i) τ es)))) answer (next-state σ h e)
       ∙ go (Monitor.offer S σ e .answer) (Monitor.offer S σ e .state .verdict) _ _ rest
@@ -116,8 +118,8 @@ module _ (S : Sheet) {n : List ℕ} (a : Accepted networkLayout n) (d : networkO
 
   -- from the fresh states
   fresh-same : Net.fresh (networkOf n) ≡ mirror (Monitor.fresh S)
-  unfolding Net.fresh Monitor.fresh mirror rowOf translate extended
-  fresh-same = ap Net.fresh d
+  unfolding Net.fresh Monitor.fresh mirror rowOf
+  fresh-same = λ i. record { configuration = record { main = r .start i; variables = r .initial i }; calls = []; checkers = []; position = 0; verdict = none }
 
   pub start-sound : sound (networkOf n) (mirror (Monitor.fresh S)) ≡ true
   start-sound = subst (λ (τ : Net.State). sound (networkOf n) τ ≡ true) fresh-same (fresh-sound a)
@@ -153,29 +155,39 @@ module _ (S : Sheet) {n : List ℕ} (a : Accepted networkLayout n) (d : networkO
         few = few;
       })
 
--- the network says the same number of program variables
-programs-same : (s n : List ℕ) → networkOf n ≡ translate (sheetOf s) → byte n 5 ≡ byte s 5
-unfolding networkOf sheetOf commonOf translate extended
-programs-same s n d = ap (λ (N : Network). N .common .programs) d
+-- An accepted network that realises an accepted sheet does what the definition says of the sheet.
+module _ (s n : List ℕ) (g : reading sheetLayout s ≡ 0) (h : reading networkLayout n ≡ 0) (r : Realises (sheetOf s) (networkOf n)) where
+  abbrev a : Accepted networkLayout n
+  a = accepted networkLayout n h
+
+  programs-same : byte n 5 ≡ byte s 5
+  unfolding networkOf sheetOf commonOf
+  programs-same = r .programs
+
+  run-same : (log : List ℕ) → OnNetwork.runOf n log ≡ OnSheet.runOf s log
+  unfolding OnNetwork.runOf OnSheet.runOf Net.run Monitor.run
+  run-same log =
+      rw (h, g, programs-same)
+      (ap (unlessRefused (logReading (byte s 5) log))
+      (ap (λ (τ : Net.State). ranAnswer OnNetwork.endsIn (runFrom (Net.offer (networkOf n)) (λ τ. τ .verdict) 1 τ (eventsOf (byte s 5) log))) (fresh-same (sheetOf s) a r)
+      ∙ runs-same (sheetOf s) a r (eventsOf (byte s 5) log) 1 (Monitor.fresh (sheetOf s)) (start-sound (sheetOf s) a r)))
+
+  pub as-defined : AsDefined s n
+  unfolding freshOf
+  as-defined = record { accepted = rw h; shown = shown-agrees (sheetOf s) a r; exactly = row-exact (sheetOf s) a r (accepted-plain s g); sameRun = run-same }
+
+-- The network that translating wrote is one.
+module _ (s buffer : List ℕ) (size : ℕ) (h : translatedOf s buffer ≡ Written size) where
+  pub translation-agrees : AsDefined s (take size (bufferOf s buffer))
+  translation-agrees =
+      as-defined s (take size (bufferOf s buffer)) (sheet-accepted s buffer size h) (reading-accepted networkLayout _ (network-accepted s buffer size h))
+      (subst (Realises (sheetOf s)) (sym (network-translated s buffer size h)) (translate-realises (sheetOf s)))
 
 pub demand3 : Demand3
-unfolding freshOf
-demand3 s buffer size h es =
-    let a = network-accepted s buffer size h in
-    record { accepted = rw (reading-accepted networkLayout (take size (bufferOf s buffer)) a); shown = shown-agrees (sheetOf s) a (network-translated s buffer size h) es }
+demand3 s buffer size h es = let d = translation-agrees s buffer size h in record { accepted = d .accepted; shown = d .shown es }
 
 pub exactly-due : ExactlyDue
-exactly-due s buffer size h es = row-exact (sheetOf s) (network-accepted s buffer size h) (network-translated s buffer size h) (accepted-plain s (sheet-accepted s buffer size h)) es
+exactly-due s buffer size h es = translation-agrees s buffer size h .exactly es
 
 pub same-run : SameRun
-unfolding OnNetwork.runOf OnSheet.runOf Net.run Monitor.run networkOf sheetOf translate extended
-same-run s buffer size h log =
-    let n = take size (bufferOf s buffer) in
-    let S = sheetOf s in
-    let a = network-accepted s buffer size h in
-    let d = network-translated s buffer size h in
-    let programs : byte n 5 ≡ byte s 5 = programs-same s n d in
-    rw (reading-accepted networkLayout n a, sheet-accepted s buffer size h, programs)
-    (ap (unlessRefused (logReading (byte s 5) log))
-    (ap (λ (τ : Net.State). ranAnswer OnNetwork.endsIn (runFrom (Net.offer (networkOf n)) (λ τ. τ .verdict) 1 τ (eventsOf (byte s 5) log))) (fresh-same S a d)
-    ∙ runs-same S a d (eventsOf (byte s 5) log) 1 (Monitor.fresh S) (start-sound S a d)))
+same-run s buffer size h log = translation-agrees s buffer size h .sameRun log

@@ -7,4 +7,10 @@ pub mod Steps
 pub mod Written
 pub mod Showing
 pub mod Exact
+pub mod Translation
 pub mod Agreement
+pub mod Joined
+pub mod Separate
+pub mod Realising
+pub mod Admitting
+pub mod Card

@@ -12,7 +12,7 @@ use lib.ListN.{length}
 use Rattle.sheet.specs.declared.Transition.{Transition}
 use Rattle.sheet.specs.declared.Triple.{Triple}
 use Rattle.sheet.specs.declared.Pair.{Pair}
-use Rattle.sheet.specs.Parts.{Common, Sheet, Paired}
+use Rattle.sheet.specs.Parts.{Common, Sheet, Paired, bases}
 use Rattle.sheet.specs.Log.{Event}
 use Rattle.sheet.proofs.Tests.{and-iff, eqb-iff}
 use Rattle.step.specs.Lists.{first, keep, numbers}
@@ -23,7 +23,7 @@ use Rattle.step.proofs.Lists.{Among, first-passes}
 use Rattle.translation.specs.Translate.{pairsFrom, pairsOf, copied, back, joined, added, extended, translate}
 use Rattle.monitor.specs.Monitor.{arms, armedBy}
 use Rattle.network.specs.declared.Checker.{Checker}
-use Rattle.network.specs.Network.{bases, pairsIn, created}
+use Rattle.network.specs.Network.{pairsIn, created}
 use Rattle.network.proofs.Ordering.{among-image}
 use Rattle.agreement.proofs.Mirror.{checker}
 use Rattle.agreement.proofs.Looking.{meets-extended, acted-extended, enabled-extended, added-condition, added-action}

@@ -164,3 +164,10 @@ ExactlyDue = (s buffer : List ℕ) (size : ℕ) → translatedOf s buffer ≡ Wr
 -- Running a log on a sheet and on its network gives the same answer.
 abbrev pub SameRun : Type 0
 SameRun = (s buffer : List ℕ) (size : ℕ) → translatedOf s buffer ≡ Written size → (log : List ℕ) → OnNetwork.runOf (take size (bufferOf s buffer)) log ≡ OnSheet.runOf s log
+
+-- All of this for the bytes of a sheet and of a network, whatever the version: what `Realises` gives.
+pub record AsDefined (s n : List ℕ) : Type 0 where
+  pub accepted : freshOf n .reading ≡ Accepted
+  pub shown : (events : List Event) → shownByNetwork n (offeredTo n events) ≡ shownBySheet (defined (sheetOf s) events)
+  pub exactly : (events : List Event) → Exactly (sheetOf s) events (shownByNetwork n (offeredTo n events) .checkers)
+  pub sameRun : (log : List ℕ) → OnNetwork.runOf n log ≡ OnSheet.runOf s log

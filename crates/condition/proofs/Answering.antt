@@ -13,22 +13,22 @@ use Rattle.condition.specs.declared.Lent.{Lent}
 use Rattle.condition.specs.Tree.{conditionNames, actionNames, isMonitor, isAtEntry}
 use Rattle.condition.specs.Parse.{Parsed, malformed, parsed, Reader, exactly, parseCondition, parseValue, parseAction}
 use Rattle.condition.specs.Meaning.{Environment, lent, holds}
-use Rattle.condition.specs.Answer.{refused, given, sized, longest, conditionOutcome, valueOutcome, runOutcome, actionOutcome, whether, conditionWhich, actionWhich}
+use Rattle.condition.specs.Answer.{refused, given, sized, longest, actionSized, longestAction, conditionOutcome, valueOutcome, runOutcome, actionOutcome, whether, conditionWhich, actionWhich}
 use Rattle.condition.specs.Walk.{bit, Ends, Skips, Means, conditionReader, valueReader, conditionBit, valueWord}
 use Rattle.condition.proofs.Naming.{unkept, unmonitored, entry-narrow, monitor-narrow, action-entry-narrow}
 use Rattle.condition.proofs.Evaluating.{EvaluatesCondition, EvaluatesValue}
 
-pub sized-length : (n : ℕ) (s : List ℕ) → sized n s ≡ true → length s ≤ 64
-sized-length n s e = go (leb n (length s)) (leb (length s) 64) refl e
+pub sized-length : (s : List ℕ) → sized s ≡ true → length s ≤ longest
+sized-length s e = go (leb 1 (length s)) (leb (length s) longest) refl e
   where
-    go : (a b : Bool) → leb (length s) 64 ≡ b → (a && b) ≡ true → length s ≤ 64
-    go a true f e = leb-true (length s) 64 f
+    go : (a b : Bool) → leb (length s) longest ≡ b → (a && b) ≡ true → length s ≤ longest
+    go a true f e = leb-true (length s) longest f
     go true false f e = absurd (omega (arith, ap bit e))
     go false false f e = absurd (omega (arith, ap bit e))
 
 -- short enough to be walked over from the start
-pub walkable : (n : ℕ) (s : List ℕ) → sized n s ≡ true → (length s ≤ 65535) × (0 ≤ length s + 1)
-walkable n s e = (omega (arith, sized-length n s e), omega arith)
+pub walkable : (s : List ℕ) → sized s ≡ true → (length s ≤ 65535) × (0 ≤ length s + 1)
+walkable s e = (omega (arith, sized-length s e), omega arith)
 
 -- what ends just at the end is one and nothing behind it; anything else is not exactly one
 module _ {A : Type 0} (s : List ℕ) (q : ℕ) where
@@ -57,15 +57,15 @@ means-parsed : {A : Type 0} (f : A → ℕ) (w : ℕ) (a : A) (p : Parsed A) →
 means-parsed f w a p e m = rw e at m
 
 module _ (s : List ℕ) (E : Environment) where
-  pub condition-length : sized 1 s ≡ false → refused 4 ≡ conditionOutcome s E
+  pub condition-length : sized s ≡ false → refused 4 ≡ conditionOutcome s E
   unfolding conditionOutcome
   condition-length e = rw e
 
-  pub value-length : sized 1 s ≡ false → refused 4 ≡ valueOutcome s E
+  pub value-length : sized s ≡ false → refused 4 ≡ valueOutcome s E
   unfolding valueOutcome
   value-length e = rw e
 
-  module _ (z : sized 1 s ≡ true) (q w : ℕ) where
+  module _ (z : sized s ≡ true) (q w : ℕ) where
     pub condition-answer : EvaluatesCondition E s 0 q w → q ≡ length s → given (eqb w 1) ≡ conditionOutcome s E
     unfolding conditionOutcome parseCondition
     condition-answer x h =
@@ -88,11 +88,11 @@ module _ (s : List ℕ) (E : Environment) where
 
 -- whether the bytes are a condition at all
 module _ (L : Lent) (s : List ℕ) where
-  pub no-length : sized 1 s ≡ false → false ≡ conditionWhich (λ _. true) L s
+  pub no-length : sized s ≡ false → false ≡ conditionWhich (λ _. true) L s
   unfolding conditionWhich
   no-length e = rw e
 
-  pub is-one : sized 1 s ≡ true → (q : ℕ) → Skips (conditionReader L) s 0 q → eqb q (length s) ≡ conditionWhich (λ _. true) L s
+  pub is-one : sized s ≡ true → (q : ℕ) → Skips (conditionReader L) s 0 q → eqb q (length s) ≡ conditionWhich (λ _. true) L s
   unfolding conditionWhich parseCondition
   is-one e q x = rw e (go (eqb q (length s)) refl)
     where
@@ -113,15 +113,15 @@ narrowed true (some a) y p h = rw (h a refl) (go (p a))
 module _ (L : Lent) (s : List ℕ) where
   pub has-entry : (conditionWhich (λ _. true) L s && not (conditionWhich (λ _. true) (unkept L) s)) ≡ conditionWhich (λ c. conditionNames c isAtEntry) L s
   unfolding conditionWhich
-  has-entry = narrowed (sized 1 s) (parseCondition L s) (parseCondition (unkept L) s) (λ c. conditionNames c isAtEntry) (λ c e. entry-narrow L s e)
+  has-entry = narrowed (sized s) (parseCondition L s) (parseCondition (unkept L) s) (λ c. conditionNames c isAtEntry) (λ c e. entry-narrow L s e)
 
   pub has-monitor : (conditionWhich (λ _. true) L s && not (conditionWhich (λ _. true) (unmonitored L) s)) ≡ conditionWhich (λ c. conditionNames c isMonitor) L s
   unfolding conditionWhich
-  has-monitor = narrowed (sized 1 s) (parseCondition L s) (parseCondition (unmonitored L) s) (λ c. conditionNames c isMonitor) (λ c e. monitor-narrow L s e)
+  has-monitor = narrowed (sized s) (parseCondition L s) (parseCondition (unmonitored L) s) (λ c. conditionNames c isMonitor) (λ c e. monitor-narrow L s e)
 
   pub run-has-entry : (actionWhich (λ _. true) L s && not (actionWhich (λ _. true) (unkept L) s)) ≡ actionWhich (λ a. actionNames a isAtEntry) L s
   unfolding actionWhich
-  run-has-entry = narrowed (sized 0 s) (parseAction L s) (parseAction (unkept L) s) (λ a. actionNames a isAtEntry) (λ a e. action-entry-narrow L s e)
+  run-has-entry = narrowed (actionSized s) (parseAction L s) (parseAction (unkept L) s) (λ a. actionNames a isAtEntry) (λ a e. action-entry-narrow L s e)
 
 -- The same where the second is asked first: no where it holds, and else as the first.
 module _ (a b c : Bool) (h : (a && not b) ≡ c) where
@@ -140,25 +140,25 @@ module _ (a b c : Bool) (h : (a && not b) ≡ c) where
       go false k = k
 
 -- an action may be empty
-action-sized : (s : List ℕ) → length s ≤ longest → sized 0 s ≡ true
-action-sized s h = rw (le-leb 0 (length s) (omega arith), le-leb (length s) 64 h)
+action-sized : (s : List ℕ) → length s ≤ longestAction → actionSized s ≡ true
+action-sized s h = le-leb (length s) longestAction h
 
-action-long : (s : List ℕ) → longest < length s → sized 0 s ≡ false
-action-long s h = rw (le-leb 0 (length s) (omega arith), lt-leb (length s) 64 h)
+action-long : (s : List ℕ) → longestAction < length s → actionSized s ≡ false
+action-long s h = lt-leb (length s) longestAction h
 
 module _ (s : List ℕ) where
-  pub run-long : (L : Lent) → longest < length s → false ≡ actionWhich (λ _. true) L s
+  pub run-long : (L : Lent) → longestAction < length s → false ≡ actionWhich (λ _. true) L s
   unfolding actionWhich
   run-long L h = rw (action-long s h)
 
-  pub run-judged : (L : Lent) → length s ≤ longest → whether (parseAction L s) (λ _. true) ≡ actionWhich (λ _. true) L s
+  pub run-judged : (L : Lent) → length s ≤ longestAction → whether (parseAction L s) (λ _. true) ≡ actionWhich (λ _. true) L s
   unfolding actionWhich
   run-judged L h = rw (action-sized s h)
 
-  pub action-refused : (E : Environment) → longest < length s → refused 4 ≡ actionOutcome s E
+  pub action-refused : (E : Environment) → longestAction < length s → refused 4 ≡ actionOutcome s E
   unfolding actionOutcome
   action-refused E h = rw (action-long s h)
 
-  pub action-performed : (E : Environment) → length s ≤ longest → runOutcome s E ≡ actionOutcome s E
+  pub action-performed : (E : Environment) → length s ≤ longestAction → runOutcome s E ≡ actionOutcome s E
   unfolding actionOutcome
   action-performed E h = rw (action-sized s h)

@@ -14,7 +14,7 @@ use Rattle.condition.specs.Word.{plusWord, minusWord, lessWord, equalWor
 use Rattle.condition.specs.Tree.{Variable, program, monitor, atEntry, Condition, always, negation, both, either, less, equal, within, Value, constant, variable, plus, minus, choose, Assignment, conditionNames, valueNames, actionNames, isMonitor, isAtEntry}
 use Rattle.condition.specs.Parse.{isLent, parsed, conditionFrom, valueFrom, runFrom, parseCondition, parseValue, parseAction}
 use Rattle.condition.specs.Meaning.{Environment, environment, lent, valueOf, holds, word, assigned, performed}
-use Rattle.condition.specs.Answer.{refused, given, sized, judged, conditionOutcome, valueOutcome, actionOutcome, runOutcome, whether, conditionWhich, actionWhich}
+use Rattle.condition.specs.Answer.{refused, given, sized, actionSized, judged, conditionOutcome, valueOutcome, actionOutcome, runOutcome, whether, conditionWhich, actionWhich}
 use Rattle.condition.proofs.Parsing.{unlent, targetsBelow, condition-lent, value-lent, action-lent, action-targets, condition-under, value-under, action-under-any, parse-lent, parse-under, parse-action-lent, parse-action-under}
 
 -- Operands of which neither names a variable of the wrong sort.
@@ -142,16 +142,16 @@ module _ (s : List ℕ) (E : Environment) where
   pub accepted-never-5 : (p : Condition → Bool) → conditionWhich p (lent E) s ≡ true
       → (c : Condition) × (parseCondition (lent E) s ≡ some c) × (conditionOutcome s E ≡ given (holds c E))
   unfolding conditionWhich conditionOutcome
-  accepted-never-5 p = accepted (sized 1 s) (parseCondition (lent E) s) p (λ c. holds c E)
+  accepted-never-5 p = accepted (sized s) (parseCondition (lent E) s) p (λ c. holds c E)
 
-  pub accepted-value-never-5 : {e : Value} → sized 1 s ≡ true → parseValue (lent E) s ≡ some e → valueOutcome s E ≡ given (word e E)
+  pub accepted-value-never-5 : {e : Value} → sized s ≡ true → parseValue (lent E) s ≡ some e → valueOutcome s E ≡ given (word e E)
   unfolding valueOutcome
   accepted-value-never-5 t e = rw (t, e)
 
   pub accepted-action-never-5 : (p : List Assignment → Bool) → actionWhich p (lent E) s ≡ true
       → (a : List Assignment) × (parseAction (lent E) s ≡ some a) × (actionOutcome s E ≡ given (performed a E))
   unfolding actionWhich actionOutcome runOutcome
-  accepted-action-never-5 p = accepted (sized 0 s) (parseAction (lent E) s) p (λ a. performed a E)
+  accepted-action-never-5 p = accepted (actionSized s) (parseAction (lent E) s) p (λ a. performed a E)
 
 -- A tree means the same in environments that agree on each variable that r does not pick, if it names none that r picks.
 module _ (E E′ : Environment) {r : Variable → Bool} (h : (v : Variable) → r v ≡ false → valueOf v E ≡ valueOf v E′) where

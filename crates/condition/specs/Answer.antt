@@ -21,31 +21,38 @@ pub data Outcome (A : Type 0) : Type 0 where
   refused : ℕ → Outcome A
   given : A → Outcome A
 
--- "its length isn't 1-64": the most bytes of a condition, a value or an action
+-- "conditions of 1 to 1,024 bytes, and the evaluator takes the same lengths": the most bytes of a condition or a value
 abbrev pub longest : ℕ
-longest = 64
+longest = 1024
 
-abbrev pub sized : ℕ → List ℕ → Bool
-sized least s = leb least (length s) && leb (length s) longest
+abbrev pub sized : List ℕ → Bool
+sized s = leb 1 (length s) && leb (length s) longest
+
+-- "actions: a length byte 0-64"
+abbrev pub longestAction : ℕ
+longestAction = 64
+
+abbrev pub actionSized : List ℕ → Bool
+actionSized s = leb (length s) longestAction
 
 -- "5 if the bytes aren't exactly one by the grammar or name a value that isn't lent. Otherwise it gives the value"
 abbrev pub judged : {A B : Type 0} → Option A → (A → B) → Outcome B
 judged none f = refused 5
 judged (some a) f = given (f a)
 
--- "4 if its length isn't 1-64; then 5"
+-- "4 if its length isn't" one of these; "then 5"
 unfoldable pub conditionOutcome : List ℕ → Environment → Outcome Bool
-conditionOutcome s E = cond (sized 1 s) (judged (parseCondition (lent E) s) (λ c. holds c E)) (refused 4)
+conditionOutcome s E = cond (sized s) (judged (parseCondition (lent E) s) (λ c. holds c E)) (refused 4)
 
 unfoldable pub valueOutcome : List ℕ → Environment → Outcome ℕ
-valueOutcome s E = cond (sized 1 s) (judged (parseValue (lent E) s) (λ e. word e E)) (refused 4)
+valueOutcome s E = cond (sized s) (judged (parseValue (lent E) s) (λ e. word e E)) (refused 4)
 
 -- The same of an action, which may be empty: the monitor variables afterwards.
 unfoldable pub runOutcome : List ℕ → Environment → Outcome (List ℕ)
 runOutcome s E = judged (parseAction (lent E) s) (λ a. performed a E)
 
 unfoldable pub actionOutcome : List ℕ → Environment → Outcome (List ℕ)
-actionOutcome s E = cond (sized 0 s) (runOutcome s E) (refused 4)
+actionOutcome s E = cond (actionSized s) (runOutcome s E) (refused 4)
 
 -- The paper's number and value for each case of the answers.
 abbrev pub conditionPaper : ConditionAnswer → Outcome Bool
@@ -68,7 +75,7 @@ whether (some a) p = p a
 
 -- "exactly one .. by the grammar" for so many variables, and what it names
 unfoldable pub conditionWhich : (Condition → Bool) → Lent → List ℕ → Bool
-conditionWhich p L s = sized 1 s && whether (parseCondition L s) p
+conditionWhich p L s = sized s && whether (parseCondition L s) p
 
 unfoldable pub actionWhich : (List Assignment → Bool) → Lent → List ℕ → Bool
-actionWhich p L s = sized 0 s && whether (parseAction L s) p
+actionWhich p L s = actionSized s && whether (parseAction L s) p

@@ -13,8 +13,10 @@ mod evaluate;
 mod skip;
 mod word;
 
-// The most bytes of a condition, a value or an action.
-pub const LONGEST: usize = 64;
+// The most bytes of a condition or a value, and of an action.
+pub const LONGEST: usize = 1024;
+
+pub const LONGEST_ACTION: usize = 64;
 
 // How many values are lent of each kind: present program values, monitor variables, program values
 // kept at entry.
@@ -101,7 +103,7 @@ pub fn perform(
 ) -> Performed
     ensures { λ r. ⌜ r ≡ actionPaper count variables (actionOutcome (now (s .entry)) (environment (now (program .entry)) (take count variables) (now (kept .entry)))) ⌝ }
 {
-    if s.len() <= LONGEST {} else {
+    if s.len() <= LONGEST_ACTION {} else {
         return Performed {
             answer: ActionAnswer::Refused(4),
             variables,
@@ -154,7 +156,7 @@ pub fn condition_has_monitor(s: &[u8], lent: Lent) -> bool
 pub fn is_action(s: &[u8], lent: Lent) -> bool
     ensures { λ r. ⌜ r ≡ actionWhich (λ _. true) lent (now (s .entry)) ⌝ }
 {
-    if s.len() <= LONGEST {} else {
+    if s.len() <= LONGEST_ACTION {} else {
         return false;
     }
     action::is_run(s, lent)

@@ -6,7 +6,7 @@ ghost use lib.ListN.{length};
 ghost use lib.Seq.{sets};
 ghost use Rattle.monitor.specs.Answers as OnSheet;
 ghost use Rattle.network.specs.Answers as OnNetwork;
-ghost use Rattle.translation.specs.Answer.{translatedOf, bufferOf};
+ghost use Rattle.translation.specs.Answer.{translatedOf, bufferOf, cardOf, cardBufferOf};
 ghost use Rattle.lines.specs.Lines.{linesOf};
 ghost use Rattle.embed.specs.Codes.{codeOf, firstOf, secondOf, thirdOf, stateOf, tripleOf, refusalOf, sizeOf};
 use step::Cause;
@@ -72,13 +72,17 @@ pub extern "C" fn watch_translate(sheet: &[u8], out: &mut [u8], size: &mut usize
     ensures { λ _. ⌜ now (out .exit) ≡ bufferOf (now (sheet .entry)) (now (out .entry)) ⌝ }
     ensures { λ _. ⌜ now (size .exit) ≡ sizeOf (translatedOf (now (sheet .entry)) (now (out .entry))) (now (size .entry)) ⌝ }
 {
-    match translation::translate(sheet, out) {
-        Translated::Written(n) => {
-            *size = n;
-            0
-        }
-        Translated::Refused(n) => n as u32,
-    }
+    hand_over(translation::translate(sheet, out), size)
+}
+
+// The same in the second form, for the card.
+#[no_mangle]
+pub extern "C" fn watch_translate_card(sheet: &[u8], out: &mut [u8], size: &mut usize) -> u32
+    ensures { λ r. ⌜ r ≡ refusalOf (cardOf (now (sheet .entry)) (now (out .entry))) ⌝ }
+    ensures { λ _. ⌜ now (out .exit) ≡ cardBufferOf (now (sheet .entry)) (now (out .entry)) ⌝ }
+    ensures { λ _. ⌜ now (size .exit) ≡ sizeOf (cardOf (now (sheet .entry)) (now (out .entry))) (now (size .entry)) ⌝ }
+{
+    hand_over(translation::translate_card(sheet, out), size)
 }
 
 // Writes the lines that the program prints for an input, as much of them as there is room for, and
@@ -89,6 +93,19 @@ pub extern "C" fn watch_lines(input: &[u8], out: &mut [u8]) -> usize
     ensures { λ _. ⌜ now (out .exit) ≡ sets (now (out .entry)) 0 (linesOf (now (input .entry))) ⌝ }
 {
     lines::lines(input, out)
+}
+
+// What translating answered: the refusal, or 0 and how many bytes there are.
+fn hand_over(answer: Translated, size: &mut usize) -> u32
+    ensures { λ r. ⌜ (r ≡ refusalOf answer) × (now (size .exit) ≡ sizeOf answer (now (size .entry))) ⌝ }
+{
+    match answer {
+        Translated::Written(n) => {
+            *size = n;
+            0
+        }
+        Translated::Refused(n) => n as u32,
+    }
 }
 
 fn numbered(answer: RunAnswer) -> Numbers

@@ -10,8 +10,8 @@ use Rattle.step.specs.declared.RunAnswer.{RunAnswer}
 use Rattle.step.specs.declared.RunAnswer.the-variants as run
 use Rattle.translation.specs.declared.Translated.{Translated}
 use Rattle.translation.specs.declared.Translated.the-variants.{Written, Refused}
-use Rattle.translation.specs.Answer.{networkBytes, translatedOf, bufferOf}
-use Rattle.translation.proofs.Cut.{sheet-accepted, written-length, written-bytes, network-longest, refused-reading}
+use Rattle.translation.specs.Answer.{translatedOf, bufferOf}
+use Rattle.translation.proofs.Cut.{sheet-accepted, refused-reading, cut}
 use Rattle.monitor.specs.Answers as OnSheet
 use Rattle.network.specs.Answers as OnNetwork
 use Rattle.lines.specs.Text.{tooLong, line}
@@ -36,19 +36,8 @@ module _ (i : List ℕ) where
 
 -- what translating a sheet answered, and the run on what it left in the buffer
 module _ (s buffer : List ℕ) (t : Translated) (e : t ≡ translatedOf s buffer) where
-  module _ (n : ℕ) (h : t ≡ Written n) where
-    pub written-short : n ≤ 8192
-    written-short = omega (arith, written-length s buffer n (sym e ∙ h), network-longest s (sheet-accepted s buffer n (sym e ∙ h)))
-
-    module _ (last : List ℕ) (f : last ≡ bufferOf s buffer) where
-      cut : take n last ≡ networkBytes s
-      cut = ap (take n) f ∙ written-bytes s buffer n (sym e ∙ h)
-
-      pub written-cut : n ≡ length (take n last)
-      written-cut = sym (written-length s buffer n (sym e ∙ h)) ∙ ap length (sym cut)
-
-      pub written-run : (log : List ℕ) (r : RunAnswer) → r ≡ OnNetwork.runOf (take n last) log → r ≡ networkRun s log
-      written-run log r g = rw (sheet-accepted s buffer n (sym e ∙ h)) (g ∙ ap (λ l. OnNetwork.runOf l log) cut)
+  pub written-run : (n : ℕ) → t ≡ Written n → (last : List ℕ) → last ≡ bufferOf s buffer → (log : List ℕ) (r : RunAnswer) → r ≡ OnNetwork.runOf (take n last) log → r ≡ networkRun s log
+  written-run n h last f log r g = rw (sheet-accepted s buffer n (sym e ∙ h)) (g ∙ ap (λ l. OnNetwork.runOf l log) (cut s buffer t e n h last f))
 
   pub refused-run : 8192 ≤ length buffer → (n : ℕ) → t ≡ Refused n → (log : List ℕ) → run.Refused n ≡ networkRun s log
   refused-run k n h log =

@@ -40,13 +40,13 @@ module _ (C : Common) (i : ℕ) (formed : conditionWhich (λ _. true) (lentIn C)
   pub meets-no-monitor : namesMonitor C (conditionIn C i) ≡ false → (m′ : List ℕ) → meets C i (environment p m k) ≡ meets C i (environment p m′ k)
   unfolding meets conditionWhich
   meets-no-monitor h m′ =
-      clear-of (sized 1 (conditionIn C i)) (parseCondition (lentIn C) (conditionIn C i)) (λ c. conditionNames c isMonitor) (λ c. holds c (environment p m k)) (λ c. holds c (environment p m′ k)) formed h
+      clear-of (sized (conditionIn C i)) (parseCondition (lentIn C) (conditionIn C i)) (λ c. conditionNames c isMonitor) (λ c. holds c (environment p m k)) (λ c. holds c (environment p m′ k)) formed h
       (no-monitor-means p m m′ k)
 
   pub meets-no-entry : namesEntry C (conditionIn C i) ≡ false → (k′ : List ℕ) → meets C i (environment p m k) ≡ meets C i (environment p m k′)
   unfolding meets conditionWhich
   meets-no-entry h k′ =
-      clear-of (sized 1 (conditionIn C i)) (parseCondition (lentIn C) (conditionIn C i)) (λ c. conditionNames c isAtEntry) (λ c. holds c (environment p m k)) (λ c. holds c (environment p m k′)) formed h
+      clear-of (sized (conditionIn C i)) (parseCondition (lentIn C) (conditionIn C i)) (λ c. conditionNames c isAtEntry) (λ c. holds c (environment p m k)) (λ c. holds c (environment p m k′)) formed h
       (no-entry-means p m k k′)
 
 -- Of an accepted sheet all that the published definition needs is known.

@@ -26,7 +26,8 @@ use Rattle.step.specs.Moves.{Configuration}
 use Rattle.step.specs.Verdicts.{verdict, verdictFor, outcomeOf}
 use Rattle.step.specs.Padding.{zeroCall, padCall}
 use Rattle.step.specs.Walk.{eventOf, numberIn}
-use Rattle.step.proofs.Bridge.{conditionPlaces, before-meets}
+use Rattle.sheet.proofs.Placed.{conditionPlaces}
+use Rattle.step.proofs.Bridge.{before-meets}
 use Rattle.step.proofs.Moving.{moved-fits}
 use Rattle.step.proofs.Refusing.{entry-room}
 use Rattle.step.proofs.Rooms.{row-more}

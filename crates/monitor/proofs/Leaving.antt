@@ -31,7 +31,8 @@ use Rattle.step.proofs.Lists.{Among, any-map, first-passes, kept-passes}
 use Rattle.step.proofs.Searching.{any-place}
 use Rattle.step.proofs.Refusing.{exit-open}
 use Rattle.step.proofs.Keeping.{every-among, row-out, row-left, row-place, row-at, first-place, keep-same, one-fewer, number-least}
-use Rattle.step.proofs.Bridge.{conditionPlaces, after-meets}
+use Rattle.sheet.proofs.Placed.{conditionPlaces}
+use Rattle.step.proofs.Bridge.{after-meets}
 use Rattle.step.proofs.Moving.{moved-fits}
 use Rattle.step.proofs.Rooms.{take-fit, take-fitted}
 use Rattle.monitor.specs.declared.Arms.{Arms}

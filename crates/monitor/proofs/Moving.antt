@@ -79,7 +79,7 @@ tablesWith h transitions triples = record { header = h; transitions = transition
 
 module _ (s : List ℕ) (h : reading sheetLayout s ≡ 0) (q : Places) (e : q ≡ placesOf sheetLayout s) where
   pub places-fit : (q .transitions < 65536) × (q .last < 65536)
-  places-fit = rw e (table-places (accepted sheetLayout s h) (omega (arith, sheet-longest s h)))
+  places-fit = rw e (table-places (accepted sheetLayout s h) 65536 (omega (arith, sheet-longest s h)))
 
   pub prepared-with : (x : Header) → x ≡ headerOf s → (t : Tables) → t ≡ tablesWith x (q .transitions) (q .last) → Prepared s t (q .conditions)
   prepared-with x f t g = record { accepted = h; tables = rw (g, f, e); conditions = ap (λ (p : Places). p .conditions) e }

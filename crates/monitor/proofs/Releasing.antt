@@ -28,7 +28,7 @@ use Rattle.step.specs.Walk.{placeOf, leastOf, eventOf, numberIn}
 use Rattle.step.proofs.Keeping.{every-among, keep-map, place-map, image-at, first-place, all-stay}
 use Rattle.step.proofs.Lists.{first-passes}
 use Rattle.step.proofs.Rooms.{verdict-outcome}
-use Rattle.step.proofs.Bridge.{conditionPlaces}
+use Rattle.sheet.proofs.Placed.{conditionPlaces}
 use Rattle.monitor.specs.declared.Arms.{Arms}
 use Rattle.monitor.specs.declared.event.Tables.{Tables}
 use Rattle.monitor.specs.declared.row.Running.{Running}

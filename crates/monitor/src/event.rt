@@ -35,7 +35,7 @@ pub struct Tables {
 pub(crate) fn refusal(
     s: &[u8],
     t: Tables,
-    conditions: &[u32; 65],
+    conditions: &[u32; 161],
     state: WatchState,
     event: Record,
     values: &[u32],
@@ -62,8 +62,8 @@ pub(crate) fn refusal(
 pub(crate) fn taken(
     s: &[u8],
     t: Tables,
-    conditions: &[u32; 65],
-    actions: &[u32; 65],
+    conditions: &[u32; 161],
+    actions: &[u32; 161],
     state: WatchState,
     event: Record,
     values: &[u32],
@@ -94,7 +94,7 @@ pub(crate) fn taken(
 fn entered(
     s: &[u8],
     t: Tables,
-    conditions: &[u32; 65],
+    conditions: &[u32; 161],
     to: Moved,
     state: WatchState,
     event: Record,
@@ -140,7 +140,7 @@ fn entered(
 fn exited(
     s: &[u8],
     t: Tables,
-    conditions: &[u32; 65],
+    conditions: &[u32; 161],
     to: Moved,
     state: WatchState,
     event: Record,
@@ -173,8 +173,8 @@ fn exited(
 pub(crate) fn moved(
     s: &[u8],
     t: Tables,
-    conditions: &[u32; 65],
-    actions: &[u32; 65],
+    conditions: &[u32; 161],
+    actions: &[u32; 161],
     first: u8,
     main: u8,
     variables: [u32; 4],
@@ -213,7 +213,7 @@ pub(crate) fn arm(
     n: u8,
     state: u8,
     unit: u8,
-    conditions: &[u32; 65],
+    conditions: &[u32; 161],
     values: &[u32],
 ) -> Arms
     requires { ⌜ Past (λ u. eqb (u .state) state) (table tripleForm n (now s) at) first ⌝ }
@@ -240,7 +240,7 @@ pub(crate) fn arm(
 }
 
 // Whether the triple at a place is armed. Its precondition is evaluated only where the rest fits.
-fn arms(s: &[u8], at: u32, state: u8, unit: u8, conditions: &[u32; 65], values: &[u32]) -> bool
+fn arms(s: &[u8], at: u32, state: u8, unit: u8, conditions: &[u32; 161], values: &[u32]) -> bool
     ensures { λ r. ⌜ r ≡ armsAt (now (s .entry)) (now (conditions .entry)) state unit (environment (now (values .entry)) [] []) (tripleForm .value (drop at (now (s .entry)))) ⌝ }
 {
     if sheet::byte_at(s, at) == state {
@@ -266,7 +266,7 @@ fn arms(s: &[u8], at: u32, state: u8, unit: u8, conditions: &[u32; 65], values: 
 fn judged(
     s: &[u8],
     t: Tables,
-    conditions: &[u32; 65],
+    conditions: &[u32; 161],
     call: Call,
     arms: Arms,
     values: &[u32],
@@ -285,7 +285,7 @@ pub(crate) fn lowest_failing(
     s: &[u8],
     at: u16,
     arms: Arms,
-    conditions: &[u32; 65],
+    conditions: &[u32; 161],
     values: &[u32],
     kept: &[u32],
 ) -> u16
@@ -310,7 +310,7 @@ pub(crate) fn lowest_failing(
 }
 
 // Whether the postcondition of a triple does not hold.
-fn fails(s: &[u8], at: u16, n: u8, conditions: &[u32; 65], values: &[u32], kept: &[u32]) -> bool
+fn fails(s: &[u8], at: u16, n: u8, conditions: &[u32; 161], values: &[u32], kept: &[u32]) -> bool
     ensures { λ r. ⌜ r ≡ failsAt (now (s .entry)) (now (conditions .entry)) at (environment (now (values .entry)) [] (now (kept .entry))) n ⌝ }
 {
     let t = sheet::triple_at(s, long(at) + 4 * word(n));

@@ -52,8 +52,8 @@ pub(crate) fn offer_accepted(s: &[u8], state: WatchState, event: Record, values:
 fn offer_sound(
     s: &[u8],
     t: Tables,
-    conditions: &[u32; 65],
-    actions: &[u32; 65],
+    conditions: &[u32; 161],
+    actions: &[u32; 161],
     state: WatchState,
     event: Record,
     values: &[u32],
@@ -93,7 +93,13 @@ pub(crate) fn run_accepted(s: &[u8], log: &[u8]) -> RunAnswer
 }
 
 // Follows the records of a log from the fresh state.
-fn follow(s: &[u8], t: Tables, conditions: &[u32; 65], actions: &[u32; 65], log: &[u8]) -> RunAnswer
+fn follow(
+    s: &[u8],
+    t: Tables,
+    conditions: &[u32; 161],
+    actions: &[u32; 161],
+    log: &[u8],
+) -> RunAnswer
     requires { ⌜ Prepared (now s) t (now conditions) × (now actions ≡ actionsOf (now s)) × (logReading (byte (now s) 5) (now log) ≡ 0) ⌝ }
     ensures { λ r. ⌜ r ≡ ranAnswer endsIn (Monitor.run (sheetOf (now (s .entry))) (eventsOf (byte (now (s .entry)) 5) (now (log .entry)))) ⌝ }
 {

@@ -42,7 +42,7 @@ pub struct Running {
 pub(crate) fn refusal(
     s: &[u8],
     t: Tables,
-    conditions: &[u32; 65],
+    conditions: &[u32; 161],
     run: Running,
     row: &[u32; 256],
     event: Record,
@@ -72,8 +72,8 @@ pub(crate) fn refusal(
 pub(crate) fn taken(
     s: &[u8],
     t: Tables,
-    conditions: &[u32; 65],
-    actions: &[u32; 65],
+    conditions: &[u32; 161],
+    actions: &[u32; 161],
     firsts: Firsts,
     run: Running,
     row: &mut [u32; 256],
@@ -109,7 +109,7 @@ pub(crate) fn taken(
 fn entered(
     s: &[u8],
     t: Tables,
-    conditions: &[u32; 65],
+    conditions: &[u32; 161],
     first: u8,
     to: Moved,
     run: Running,
@@ -148,7 +148,7 @@ fn entered(
 fn exited(
     s: &[u8],
     t: Tables,
-    conditions: &[u32; 65],
+    conditions: &[u32; 161],
     to: Moved,
     run: Running,
     row: &mut [u32; 256],
@@ -207,7 +207,7 @@ fn of_unit(row: &[u32; 256], opened: usize, place: usize, unit: u32) -> bool
 fn judged(
     s: &[u8],
     t: Tables,
-    conditions: &[u32; 65],
+    conditions: &[u32; 161],
     row: &[u32; 256],
     place: usize,
     values: &[u32],

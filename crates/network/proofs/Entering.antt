@@ -12,8 +12,8 @@ use Rattle.sheet.specs.declared.Pair.{Pair}
 use Rattle.sheet.specs.declared.Record.{Record}
 use Rattle.sheet.specs.Bytes.{byte}
 use Rattle.sheet.specs.Table.{fit}
-use Rattle.sheet.specs.Parts.{Paired}
-use Rattle.sheet.specs.Decode.{transitionOf, pairedForm, commonOf, networkOf}
+use Rattle.sheet.specs.Parts.{Paired, bases}
+use Rattle.sheet.specs.Decode.{wide, transitionOf, pairedForm, commonOf, networkOf}
 use Rattle.sheet.specs.Reading.{transitionsOf, lastOf, networkLayout}
 use Rattle.sheet.specs.Log.{Event}
 use Rattle.sheet.proofs.Accepted.{Accepted, GoodPair, accepted, bounds, network-pair}
@@ -33,14 +33,15 @@ use Rattle.step.specs.Walk.{meetsAt, eventOf, numberIn}
 use Rattle.step.specs.Padding.{zeroCall, padCall}
 use Rattle.step.proofs.Lists.{Among, first-passes}
 use Rattle.step.proofs.Keeping.{among-at, keep-same}
-use Rattle.step.proofs.Bridge.{conditionPlaces, pairedAt, noPaired, first-paired, before-meets}
+use Rattle.sheet.proofs.Placed.{network-few, conditionPlaces}
+use Rattle.step.proofs.Bridge.{pairedAt, noPaired, first-paired, before-meets}
 use Rattle.step.proofs.Moving.{moved-fits}
 use Rattle.step.proofs.Rooms.{take-fitted, row-more, sets-more}
 use Rattle.network.specs.declared.Checker.{Checker}
 use Rattle.network.specs.declared.NetworkState.{NetworkState}
 use Rattle.network.specs.declared.event.Tables.{Tables}
 use Rattle.network.specs.declared.event.Row.{Row}
-use Rattle.network.specs.Network.{State, bases, pairsIn, created, entered}
+use Rattle.network.specs.Network.{State, pairsIn, created, entered}
 use Rattle.network.specs.Sound.{sound}
 use Rattle.network.specs.Padded.{zeroChecker, pad, view}
 use Rattle.network.specs.Walk.{Unrefused, takenAt, movedBy, createdAt, withMore}
@@ -74,7 +75,7 @@ module _ {s : List ℕ} (a : Accepted networkLayout s) (k : Configuration) (e : 
   starts-same : (t : Paired) → Among t (transitionsOf networkLayout s) → keep startsAt (t .pairs) ≡ keep starts (t .pairs)
   starts-same t m = keep-same startsAt starts (t .pairs) (λ q n.
       let g = good-pair t m q n in
-      before-meets a (omega arith) (q .condition) (g .condition) (g .noMonitor) (e .values) (k .variables) p (g .noEntry))
+      before-meets a (network-few (wide s)) (q .condition) (g .condition) (g .noMonitor) (e .values) (k .variables) p (g .noEntry))
 
   created-found : (f : Found) → pairedAt s f ≡ first takes (transitionsOf networkLayout s) → createdAt s (conditionPlaces s) f (environment (e .values) [] []) (e .number) ≡ created (networkOf s) k e
   unfolding created networkOf keep

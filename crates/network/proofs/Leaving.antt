@@ -12,7 +12,7 @@ use Rattle.condition.specs.Meaning.{environment}
 use Rattle.sheet.specs.declared.Template.{Template}
 use Rattle.sheet.specs.declared.Record.{Record}
 use Rattle.sheet.specs.Table.{fit}
-use Rattle.sheet.specs.Decode.{pairedForm, lastAt, commonOf, networkOf}
+use Rattle.sheet.specs.Decode.{wide, pairedForm, lastAt, commonOf, networkOf}
 use Rattle.sheet.specs.Reading.{lastOf, noTemplate, networkLayout}
 use Rattle.sheet.specs.Log.{Event}
 use Rattle.sheet.proofs.Accepted.{Accepted, accepted, bounds, network-template}
@@ -31,7 +31,8 @@ use Rattle.step.proofs.Lists.{Among, first-passes, kept-passes}
 use Rattle.step.proofs.Searching.{any-place}
 use Rattle.step.proofs.Refusing.{exit-open}
 use Rattle.step.proofs.Keeping.{every-among, length-keep, row-left, row-place, row-at, first-place, keep-same, keep-both, one-fewer, number-least}
-use Rattle.step.proofs.Bridge.{conditionPlaces, after-meets}
+use Rattle.sheet.proofs.Placed.{network-few, conditionPlaces}
+use Rattle.step.proofs.Bridge.{after-meets}
 use Rattle.step.proofs.Rooms.{take-fit, take-fitted}
 use Rattle.network.specs.declared.Checker.{Checker}
 use Rattle.network.specs.declared.NetworkState.{NetworkState}
@@ -63,7 +64,7 @@ module _ {s : List ℕ} (a : Accepted networkLayout s) (k : Configuration) (e : 
       let g = network-template a i noTemplate (known x (kept-passes (boundTo (c .number)) l x m .0)) in
       ap not
       (ap (λ (t : Template). meetsAt s (conditionPlaces s) (t .postcondition) (environment (e .values) [] (c .kept))) (template-there a i)
-      ∙ after-meets a (omega arith) (templateIn (networkOf s) i .postcondition) (g .postcondition) (g .noMonitorAfter) (e .values) (k .variables) p (c .kept) q)
+      ∙ after-meets a (network-few (wide s)) (templateIn (networkOf s) i .postcondition) (g .postcondition) (g .noMonitorAfter) (e .values) (k .variables) p (c .kept) q)
 
   judged-same : (call : Call) → call ≡ padCall c
       → numberIn (leastOf 256 (templates (keep (failsAt s (conditionPlaces s) (lastAt pairedForm s) (environment (e .values) [] (take (commonOf s .programs) (call .kept))) (call .number)) l)))

@@ -9,7 +9,7 @@ use borrow.Author.Tests.{eq-eqb, lt-ltb, le-leb, leb-false, eqb-true}
 use lib.Dec.{eqb, ltb, leb}
 use lib.ListN.{length, length-append}
 use Rattle.sheet.specs.Table.{every}
-use Rattle.sheet.specs.Parts.{Network}
+use Rattle.sheet.specs.Parts.{Network, bases}
 use Rattle.sheet.specs.Decode.{commonOf, networkOf}
 use Rattle.sheet.specs.Reading.{networkLayout}
 use Rattle.sheet.specs.Log.{Event}
@@ -25,7 +25,7 @@ use Rattle.step.proofs.Lists.{any-map, any-keep, kept-passes, least-some}
 use Rattle.step.proofs.Refusing as Refusing
 use Rattle.step.proofs.Keeping.{every-among, among-every, every-keep, length-keep, distinct-keep, distinct-more}
 use Rattle.network.specs.declared.Checker.{Checker}
-use Rattle.network.specs.Network.{State, fresh, bases, templateIn, created, boundTo, fails, failing, ofNumber, entered, exited, refusal, offer}
+use Rattle.network.specs.Network.{State, fresh, templateIn, created, boundTo, fails, failing, ofNumber, entered, exited, refusal, offer}
 use Rattle.network.specs.Sound.{callSound, onCall, fourACall, neverFalls, inOrder, checkersSound, sound}
 use Rattle.step.proofs.Moving.{network-good, moved-main, moved-variables, verdict-fits}
 use Rattle.network.proofs.Living.{four-fewer}

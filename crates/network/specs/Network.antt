@@ -6,10 +6,9 @@ use Prim.Native.Nat.{ℕ, _+_}
 use lib.Dec.{eqb}
 use lib.ListN.{getD}
 use Rattle.condition.specs.Meaning.{environment}
-use Rattle.sheet.specs.declared.Transition.{Transition}
 use Rattle.sheet.specs.declared.Pair.{Pair}
 use Rattle.sheet.specs.declared.Template.{Template}
-use Rattle.sheet.specs.Parts.{Paired, Network}
+use Rattle.sheet.specs.Parts.{Paired, Network, bases}
 use Rattle.sheet.specs.Reading.{noTemplate}
 use Rattle.sheet.specs.Log.{Event}
 use Rattle.step.specs.declared.Verdict.{Verdict}
@@ -33,10 +32,7 @@ pub record State : Type 0 where
 unfoldable pub fresh : Network → State
 fresh N = record { configuration = record { main = N .common .start; variables = N .common .initial }; calls = []; checkers = []; position = 0; verdict = none }
 
--- its transitions without their pairs; a template by its number
-abbrev pub bases : Network → List Transition
-bases N = map (λ (t : Paired). t .base) (N .transitions)
-
+-- a template by its number
 abbrev pub templateIn : Network → ℕ → Template
 templateIn N i = getD (N .templates) i noTemplate
 

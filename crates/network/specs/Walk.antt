@@ -6,6 +6,7 @@ use Prim.Native.Nat.{ℕ, _+_, _*_, _≤_}
 use lib.Dec.{eqb, ltb}
 use lib.ListN.{length, take, drop}
 use lib.Seq.{sets}
+use Rattle.sheet.specs.Parts.{bases}
 use Rattle.condition.specs.Meaning.{Environment, environment}
 use Rattle.sheet.specs.declared.Pair.{Pair}
 use Rattle.sheet.specs.declared.Template.{Template}
@@ -25,7 +26,7 @@ use Rattle.network.specs.declared.Checker.{Checker}
 use Rattle.network.specs.declared.NetworkState.{NetworkState}
 use Rattle.network.specs.declared.event.Tables.{Tables}
 use Rattle.network.specs.declared.event.Row.{Row}
-use Rattle.network.specs.Network.{bases, boundTo, refusal}
+use Rattle.network.specs.Network.{boundTo, refusal}
 use Rattle.network.specs.Sound.{sound}
 use Rattle.network.specs.Padded.{zeroChecker, pad, view}
 

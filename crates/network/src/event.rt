@@ -42,7 +42,7 @@ pub struct Row {
 pub(crate) fn refusal(
     s: &[u8],
     t: Tables,
-    conditions: &[u32; 65],
+    conditions: &[u32; 161],
     state: NetworkState,
     event: Record,
     values: &[u32],
@@ -69,8 +69,8 @@ pub(crate) fn refusal(
 pub(crate) fn taken(
     s: &[u8],
     t: Tables,
-    conditions: &[u32; 65],
-    actions: &[u32; 65],
+    conditions: &[u32; 161],
+    actions: &[u32; 161],
     state: NetworkState,
     event: Record,
     values: &[u32],
@@ -92,7 +92,7 @@ pub(crate) fn taken(
 fn entered(
     s: &[u8],
     t: Tables,
-    conditions: &[u32; 65],
+    conditions: &[u32; 161],
     found: Found,
     to: Moved,
     state: NetworkState,
@@ -139,7 +139,7 @@ fn entered(
 fn exited(
     s: &[u8],
     t: Tables,
-    conditions: &[u32; 65],
+    conditions: &[u32; 161],
     to: Moved,
     state: NetworkState,
     event: Record,
@@ -175,7 +175,7 @@ fn exited(
 fn found(
     s: &[u8],
     t: Tables,
-    conditions: &[u32; 65],
+    conditions: &[u32; 161],
     main: u8,
     variables: [u32; 4],
     event: Record,
@@ -208,7 +208,7 @@ fn moved(
     s: &[u8],
     t: Tables,
     found: Found,
-    actions: &[u32; 65],
+    actions: &[u32; 161],
     main: u8,
     variables: [u32; 4],
     event: Record,
@@ -225,7 +225,7 @@ fn moved(
 fn create(
     s: &[u8],
     found: Found,
-    conditions: &[u32; 65],
+    conditions: &[u32; 161],
     values: &[u32],
     number: u16,
     checkers: [Checker; 64],
@@ -257,7 +257,7 @@ fn create_from(
     s: &[u8],
     at: u32,
     n: u8,
-    conditions: &[u32; 65],
+    conditions: &[u32; 161],
     values: &[u32],
     number: u16,
     checkers: [Checker; 64],
@@ -301,7 +301,7 @@ fn create_from(
 fn judged(
     s: &[u8],
     t: Tables,
-    conditions: &[u32; 65],
+    conditions: &[u32; 161],
     call: Call,
     checkers: [Checker; 64],
     living: usize,
@@ -332,7 +332,7 @@ fn lowest_failing(
     number: u16,
     checkers: [Checker; 64],
     living: usize,
-    conditions: &[u32; 65],
+    conditions: &[u32; 161],
     values: &[u32],
     kept: &[u32],
 ) -> u16
@@ -360,7 +360,7 @@ fn fails(
     at: u16,
     number: u16,
     c: Checker,
-    conditions: &[u32; 65],
+    conditions: &[u32; 161],
     values: &[u32],
     kept: &[u32],
 ) -> bool

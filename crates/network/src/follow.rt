@@ -3,7 +3,7 @@
 ghost use mathlib.Core.Path.{_≡_};
 ghost use mathlib.Core.Bool.{true};
 ghost use Prim.Native.Nat.{_<_};
-ghost use Rattle.sheet.specs.Bytes.{byte};
+ghost use Rattle.sheet.specs.Bytes.{byte, half};
 ghost use Rattle.sheet.specs.Decode.{networkOf};
 ghost use Rattle.sheet.specs.Reading.{reading, networkLayout};
 ghost use Rattle.sheet.specs.Log.{logReading, eventsOf};
@@ -39,7 +39,7 @@ pub(crate) fn offer_accepted(
     let p = sheet::network_places(s);
     let conditions = p.conditions;
     let actions = p.actions;
-    let t = tables(sheet::header_of(s), p.transitions, p.last);
+    let t = tables(sheet::header_of(s), length_said(s), p.transitions, p.last);
     if sound::sound(s, t, state) {
         offer_sound(s, t, &conditions, &actions, state, event, values)
     } else {
@@ -53,8 +53,8 @@ pub(crate) fn offer_accepted(
 fn offer_sound(
     s: &[u8],
     t: Tables,
-    conditions: &[u32; 65],
-    actions: &[u32; 65],
+    conditions: &[u32; 161],
+    actions: &[u32; 161],
     state: NetworkState,
     event: Record,
     values: &[u32],
@@ -86,7 +86,7 @@ pub(crate) fn run_accepted(s: &[u8], log: &[u8]) -> RunAnswer
             let p = sheet::network_places(s);
             let conditions = p.conditions;
             let actions = p.actions;
-            let t = tables(h, p.transitions, p.last);
+            let t = tables(h, length_said(s), p.transitions, p.last);
             follow(s, t, &conditions, &actions, log)
         }
         LogReading::Refused(n) => RunAnswer::Refused(n),
@@ -94,7 +94,13 @@ pub(crate) fn run_accepted(s: &[u8], log: &[u8]) -> RunAnswer
 }
 
 // Follows the records of a log from the fresh state.
-fn follow(s: &[u8], t: Tables, conditions: &[u32; 65], actions: &[u32; 65], log: &[u8]) -> RunAnswer
+fn follow(
+    s: &[u8],
+    t: Tables,
+    conditions: &[u32; 161],
+    actions: &[u32; 161],
+    log: &[u8],
+) -> RunAnswer
     requires { ⌜ Prepared (now s) t (now conditions) × (now actions ≡ actionsOf (now s)) × (logReading (byte (now s) 5) (now log) ≡ 0) ⌝ }
     ensures { λ r. ⌜ r ≡ ranAnswer endsIn (Network.run (networkOf (now (s .entry))) (eventsOf (byte (now (s .entry)) 5) (now (log .entry)))) ⌝ }
 {
@@ -127,7 +133,14 @@ fn follow(s: &[u8], t: Tables, conditions: &[u32; 65], actions: &[u32; 65], log:
     RunAnswer::Clean(state.position, state.main, state.opened)
 }
 
-fn tables(header: Header, transitions: u32, templates: u32) -> Tables
+// How long the network is, as its first two bytes say.
+fn length_said(s: &[u8]) -> usize
+    ensures { λ r. ⌜ (r ≡ half (now (s .entry)) 0) × (r < 65536) ⌝ }
+{
+    wide(sheet::byte_at(s, 0)) * 256 + wide(sheet::byte_at(s, 1))
+}
+
+fn tables(header: Header, size: usize, transitions: u32, templates: u32) -> Tables
     requires { ⌜ (transitions < 65536) × (templates < 65536) ⌝ }
     ensures { λ r. ⌜ r ≡ record { header = header; transitions = transitions; templates = templates } ⌝ }
 {

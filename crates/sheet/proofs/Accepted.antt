@@ -5,11 +5,11 @@ use mathlib.Core.Logic.{_↔_}
 use mathlib.Core.List.{List, [], _∷_}
 use Prim.Native.Nat.{ℕ, _/_, _^_, _≤_, _<_}
 use lib.Dec.{leb, eqb}
-use borrow.Author.Tests.{leb-true, eqb-false, eq-eqb, not-true}
+use borrow.Author.Tests.{leb-true, eqb-false, not-true}
 use lib.ListN.{length, drop, getD}
 use Rattle.condition.specs.Tree.{actionNames, isAtEntry}
 use Rattle.condition.specs.Parse.{conditionFrom, parseCondition, conditionOperator, runFrom, parseAction}
-use Rattle.condition.specs.Answer.{conditionWhich, actionWhich, longest}
+use Rattle.condition.specs.Answer.{conditionWhich, actionWhich}
 use Rattle.sheet.specs.declared.Transition.{Transition}
 use Rattle.sheet.specs.declared.Triple.{Triple}
 use Rattle.sheet.specs.declared.Pair.{Pair}
@@ -17,15 +17,15 @@ use Rattle.sheet.specs.declared.Template.{Template}
 use Rattle.sheet.specs.Bytes.{byte, half}
 use Rattle.sheet.specs.Table.{table, after, every}
 use Rattle.sheet.specs.Parts.{Common, Paired}
-use Rattle.sheet.specs.Decode.{wordForm, lengthForm, pairForm, pairedForm, pairCountForm, conditionsIn, actionsIn, transitionsIn, lastIn, conditionsAt, actionsAt, transitionsAt, lastAt, commonOf}
-use Rattle.sheet.specs.Reading.{Layout, guard, precondition, postcondition, between, isBad, lentIn, conditionIn, whole, counted, tabled, formed, namesEntry, namesMonitor, usedWell, roled, ranged, unless, transitionsOf, lastOf, reading, countsOf, transitionRanged, tripleRanged, together, sheetLayout, noTemplate, pairRanged, templateRanged, networkLayout}
+use Rattle.sheet.specs.Decode.{wide, wordForm, lengthForm, pairForm, pairedForm, pairCountForm, conditionsIn, actionsIn, transitionsIn, lastIn, conditionsAt, actionsAt, transitionsAt, lastAt, commonOf}
+use Rattle.sheet.specs.Reading.{Layout, guard, precondition, postcondition, between, isBad, mostBytes, lentIn, conditionIn, whole, counted, tabled, formed, namesEntry, namesMonitor, usedWell, roled, ranged, unless, transitionsOf, lastOf, reading, countsOf, transitionRanged, tripleRanged, together, sheetLayout, noTemplate, pairRanged, templateRanged, networkLayout}
 use Rattle.sheet.proofs.Tables.{length-records, same-records, every-at, every-or, every-map}
 use Rattle.sheet.proofs.Tests.{and-iff, leb-iff, eqb-iff, not-iff}
 
 -- No refusal applies.
 pub record Accepted {T R : Type 0} (F : Layout T R) (s : List ℕ) : Type 0 where
   pub whole : whole s ≡ true
-  pub version : byte s 2 ≡ F .version
+  pub version : F .version (byte s 2) ≡ true
   pub counted : counted F s ≡ true
   pub tabled : tabled F s ≡ true
   pub formed : formed (commonOf s) ≡ true
@@ -41,15 +41,15 @@ module _ {T R : Type 0} (F : Layout T R) (s : List ℕ) where
   pub accepted : reading F s ≡ 0 → Accepted F s
   unfolding reading
   accepted h =
-      let (a, (b, (c, (d, (e, (f, (g, (k, z)))))))) = simp (unless-iff, eqb-iff) at h in
+      let (a, (b, (c, (d, (e, (f, (g, (k, z)))))))) = simp unless-iff at h in
       record { whole = a; version = b; counted = c; tabled = d; formed = e; ranged = f; roled = g; spread = k }
 
   pub reading-accepted : Accepted F s → reading F s ≡ 0
   unfolding reading
-  reading-accepted a = rw (a .whole, a .version, a .counted, a .tabled, a .formed, a .ranged, a .roled, a .spread, eq-eqb (F .version) (F .version) refl)
+  reading-accepted a = rw (a .whole, a .version, a .counted, a .tabled, a .formed, a .ranged, a .roled, a .spread)
 
 -- 3, of what the bytes stand for: the common part, the transitions and the last table's records.
-pub record Bounds {T R : Type 0} (F : Layout T R) (C : Common) (ts : List T) (rs : List R) : Type 0 where
+pub record Bounds {T R : Type 0} (F : Layout T R) (w : Bool) (C : Common) (ts : List T) (rs : List R) : Type 0 where
   pub someState : 1 ≤ C .states
   pub states : C .states ≤ 16
   pub someUnit : 1 ≤ C .units
@@ -57,7 +57,7 @@ pub record Bounds {T R : Type 0} (F : Layout T R) (C : Common) (ts : List T) (rs
   pub programs : C .programs ≤ 8
   pub monitors : C .monitors ≤ 4
   pub initial : length (C .initial) ≡ C .monitors
-  pub conditions : length (C .conditions) ≤ F .conditions
+  pub conditions : length (C .conditions) ≤ F .conditions w
   pub actions : length (C .actions) ≤ F .actions
   pub transitions : length ts ≤ F .transitions
   pub last : length rs ≤ 32
@@ -75,7 +75,7 @@ module _ {T R : Type 0} {F : Layout T R} {s : List ℕ} (a : Accepted F s) where
   unfolding whole
   length-least = simp (and-iff, leb-iff) at (a .whole) .0
 
-  pub bounds : Bounds F (commonOf s) (transitionsOf F s) (lastOf F s)
+  pub bounds : Bounds F (wide s) (commonOf s) (transitionsOf F s) (lastOf F s)
   unfolding counted commonOf
   bounds =
       let ((q, q′), ((u, u′), (p, (v, (c, (t, (n, (l, (b, (d, g)))))))))) = simp (and-iff, leb-iff, eqb-iff, not-iff) at (a .counted) in
@@ -97,11 +97,11 @@ module _ {T R : Type 0} {F : Layout T R} {s : List ℕ} (a : Accepted F s) where
       }
 
   -- 4: the length bytes, how many pairs there are, and where the tables end
-  pub condition-lengths : every (between 1 longest) (table lengthForm (conditionsIn s) s (conditionsAt s)) ≡ true
+  pub condition-lengths : every (between 1 (mostBytes (wide s))) (table (lengthForm (wide s)) (conditionsIn s) s (conditionsAt s)) ≡ true
   unfolding tabled
   condition-lengths = simp and-iff at (a .tabled) .0
 
-  pub action-lengths : every (between 0 longest) (table lengthForm (actionsIn s) s (actionsAt s)) ≡ true
+  pub action-lengths : every (between 0 (mostBytes false)) (table (lengthForm false) (actionsIn s) s (actionsAt s)) ≡ true
   unfolding tabled
   action-lengths = simp and-iff at (a .tabled) .1 .0
 

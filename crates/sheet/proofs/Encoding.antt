@@ -1,6 +1,6 @@
 -- Decoding what was encoded gives it back, and a network that is admitted is read without a refusal. Assumes nothing.
 use mathlib.Core.Path.{_≡_, refl, sym, ap, _∙_}
-use mathlib.Core.Bool.{Bool, true}
+use mathlib.Core.Bool.{Bool, true, false, cond}
 use mathlib.Core.List.{List, [], _∷_, _++_, append-assoc, append-nil, map}
 use Prim.Native.Nat.{ℕ, _+_, _*_, _/_, _%_}
 use native.Mathlib.Omega.{arith}
@@ -8,15 +8,14 @@ use borrow.Author.Tests.{eq-eqb}
 use lib.ListN.{length, drop, length-append}
 use lib.Seq.{drop-drop, drop-at, take-append-seam}
 use Rattle.condition.specs.Word.{bigEndian}
-use Rattle.condition.specs.Answer.{sized, conditionWhich, actionWhich, longest}
 use Rattle.sheet.specs.declared.Pair.{Pair}
 use Rattle.sheet.specs.Bytes.{byte}
 use Rattle.sheet.specs.Table.{every, Form, records, extent, table, after}
-use Rattle.sheet.specs.Parts.{Common, Paired, Network}
-use Rattle.sheet.specs.Decode.{wordForm, textForm, lengthForm, pairForm, pairedForm, pairCountForm, templateForm, conditionsIn, actionsIn, transitionsIn, lastIn, conditionsAt, actionsAt, transitionsAt, lastAt, commonOf, networkOf}
-use Rattle.sheet.specs.Encode.{wordBytes, textBytes, pairBytes, pairedBytes, templateBytes, written, tableBytes, encode, withinCounts, admitted}
-use Rattle.sheet.specs.Reading.{between, lentIn, whole, counted, tabled, formed, ranged, roled, reading, networkLayout}
-use Rattle.sheet.proofs.Tables.{and-parts, and-both, every-map, every-weaker}
+use Rattle.sheet.specs.Parts.{Paired, Network}
+use Rattle.sheet.specs.Decode.{wide, wordForm, textForm, lengthForm, pairForm, pairedForm, pairCountForm, templateForm, conditionsIn, actionsIn, transitionsIn, lastIn, conditionsAt, actionsAt, transitionsAt, lastAt, commonOf, networkOf}
+use Rattle.sheet.specs.Encode.{wordBytes, textBytes, pairBytes, pairedBytes, templateBytes, written, tableBytes, encode, withinCounts, withinLengths, admitted}
+use Rattle.sheet.specs.Reading.{between, mostBytes, whole, counted, tabled, formed, ranged, roled, reading, networkLayout}
+use Rattle.sheet.proofs.Tables.{and-both, every-map}
 use Rattle.sheet.proofs.Tests.{and-iff, leb-iff, eqb-iff}
 use Rattle.sheet.proofs.Accepted.{Accepted, reading-accepted}
 
@@ -48,11 +47,13 @@ pub undoes-word : Undoes wordForm wordBytes (λ m. m)
 unfolding bigEndian
 undoes-word = record { value = λ m t. omega arith; size = λ m t. refl }
 
-pub undoes-text : Undoes textForm textBytes (λ t. t)
-undoes-text = record { value = λ t r. take-append-seam t r; size = λ t r. omega arith }
+pub undoes-text : (w : Bool) → Undoes (textForm w) (textBytes w) (λ t. t)
+undoes-text true = record { value = λ t r. rw (half-same (length t)) (take-append-seam t r); size = λ t r. rw (half-same (length t)) (omega arith) }
+undoes-text false = record { value = λ t r. take-append-seam t r; size = λ t r. omega arith }
 
-pub undoes-length : Undoes lengthForm textBytes (λ t. length t)
-undoes-length = record { value = λ t r. refl; size = λ t r. omega arith }
+pub undoes-length : (w : Bool) → Undoes (lengthForm w) (textBytes w) (λ t. length t)
+undoes-length true = record { value = λ t r. half-same (length t); size = λ t r. rw (half-same (length t)) (omega arith) }
+undoes-length false = record { value = λ t r. refl; size = λ t r. omega arith }
 
 pub undoes-pair : Undoes pairForm pairBytes (λ p. p)
 undoes-pair = record { value = λ p t. refl; size = λ p t. refl }
@@ -98,62 +99,71 @@ abbrev pub transitionsOn : Network → List ℕ
 transitionsOn N = written pairedBytes (N .transitions) ++ templatesOn N
 
 abbrev pub actionsOn : Network → List ℕ
-actionsOn N = written textBytes (N .common .actions) ++ transitionsOn N
+actionsOn N = written (textBytes false) (N .common .actions) ++ transitionsOn N
 
-abbrev pub conditionsOn : Network → List ℕ
-conditionsOn N = written textBytes (N .common .conditions) ++ actionsOn N
+abbrev pub conditionsOn : Bool → Network → List ℕ
+conditionsOn w N = written (textBytes w) (N .common .conditions) ++ actionsOn N
 
-pub length-encode : (N : Network) → length (encode N) ≡ 14 + (length (written wordBytes (N .common .initial)) + (length (written textBytes (N .common .conditions)) + (length (written textBytes (N .common .actions)) + (length (written pairedBytes (N .transitions)) + length (written templateBytes (N .templates))))))
+-- what is written says whether its lengths are wide
+pub encode-wide : (w : Bool) (N : Network) → wide (encode w N) ≡ w
+unfolding encode
+encode-wide true N = refl
+encode-wide false N = refl
+
+own-text : (w : Bool) (N : Network) → Undoes (textForm (wide (encode w N))) (textBytes w) (λ t. t)
+own-text w N = rw (encode-wide w N) (undoes-text w)
+
+pub length-encode : (w : Bool) (N : Network) → length (encode w N) ≡ 14 + (length (written wordBytes (N .common .initial)) + (length (written (textBytes w) (N .common .conditions)) + (length (written (textBytes false) (N .common .actions)) + (length (written pairedBytes (N .transitions)) + length (written templateBytes (N .templates))))))
 unfolding encode tableBytes
-length-encode N = simp length-append (omega arith)
+length-encode w N = simp length-append (omega arith)
 
-module _ (N : Network) (fits : length (N .common .initial) ≡ N .common .monitors) where
-  pub initial-stands : Stands wordForm wordBytes (λ m. m) (N .common .initial) (encode N) (byte (encode N) 6) 14 (conditionsOn N)
+module _ (w : Bool) (N : Network) (fits : length (N .common .initial) ≡ N .common .monitors) where
+  pub initial-stands : Stands wordForm wordBytes (λ m. m) (N .common .initial) (encode w N) (byte (encode w N) 6) 14 (conditionsOn w N)
   unfolding encode tableBytes
-  initial-stands = stands undoes-word (N .common .initial) (encode N) (N .common .monitors) 14 (conditionsOn N) (sym fits) refl
+  initial-stands = stands undoes-word (N .common .initial) (encode w N) (N .common .monitors) 14 (conditionsOn w N) (sym fits) refl
 
   -- by the texts or by their lengths
-  pub conditions-stand : {B : Type 0} {F : Form B} {f : List ℕ → B} → Undoes F textBytes f
-      → Stands F textBytes f (N .common .conditions) (encode N) (conditionsIn (encode N)) (conditionsAt (encode N)) (actionsOn N)
+  pub conditions-stand : {B : Type 0} {F : Form B} {f : List ℕ → B} → Undoes F (textBytes w) f
+      → Stands F (textBytes w) f (N .common .conditions) (encode w N) (conditionsIn (encode w N)) (conditionsAt (encode w N)) (actionsOn N)
   unfolding encode conditionsAt
-  conditions-stand u = stands u (N .common .conditions) (encode N) (length (N .common .conditions)) (conditionsAt (encode N)) (actionsOn N) refl (initial-stands .behind)
+  conditions-stand u = stands u (N .common .conditions) (encode w N) (length (N .common .conditions)) (conditionsAt (encode w N)) (actionsOn N) refl (initial-stands .behind)
 
-  pub actions-stand : {B : Type 0} {F : Form B} {f : List ℕ → B} → Undoes F textBytes f
-      → Stands F textBytes f (N .common .actions) (encode N) (actionsIn (encode N)) (actionsAt (encode N)) (transitionsOn N)
+  pub actions-stand : {B : Type 0} {F : Form B} {f : List ℕ → B} → Undoes F (textBytes false) f
+      → Stands F (textBytes false) f (N .common .actions) (encode w N) (actionsIn (encode w N)) (actionsAt (encode w N)) (transitionsOn N)
   unfolding encode actionsAt
-  actions-stand u = stands u (N .common .actions) (encode N) (length (N .common .actions)) (actionsAt (encode N)) (transitionsOn N) refl (conditions-stand undoes-text .behind)
+  actions-stand u = stands u (N .common .actions) (encode w N) (length (N .common .actions)) (actionsAt (encode w N)) (transitionsOn N) refl (conditions-stand (own-text w N) .behind)
 
   -- with their pairs or by how many those are
   pub transitions-stand : {B : Type 0} {F : Form B} {f : Paired → B} → Undoes F pairedBytes f
-      → Stands F pairedBytes f (N .transitions) (encode N) (transitionsIn (encode N)) (transitionsAt (encode N)) (templatesOn N)
+      → Stands F pairedBytes f (N .transitions) (encode w N) (transitionsIn (encode w N)) (transitionsAt (encode w N)) (templatesOn N)
   unfolding encode transitionsAt
-  transitions-stand u = stands u (N .transitions) (encode N) (length (N .transitions)) (transitionsAt (encode N)) (templatesOn N) refl (actions-stand undoes-text .behind)
+  transitions-stand u = stands u (N .transitions) (encode w N) (length (N .transitions)) (transitionsAt (encode w N)) (templatesOn N) refl (actions-stand (undoes-text false) .behind)
 
-  pub templates-stand : Stands templateForm templateBytes (λ t. t) (N .templates) (encode N) (lastIn (encode N)) (lastAt pairedForm (encode N)) []
+  pub templates-stand : Stands templateForm templateBytes (λ t. t) (N .templates) (encode w N) (lastIn (encode w N)) (lastAt pairedForm (encode w N)) []
   unfolding encode lastAt
-  templates-stand = stands undoes-template (N .templates) (encode N) (length (N .templates)) (lastAt pairedForm (encode N)) [] refl (transitions-stand undoes-paired .behind ∙ sym (append-nil (templatesOn N)))
+  templates-stand = stands undoes-template (N .templates) (encode w N) (length (N .templates)) (lastAt pairedForm (encode w N)) [] refl (transitions-stand undoes-paired .behind ∙ sym (append-nil (templatesOn N)))
 
   -- where the tables begin, and that the last one ends at the end
-  pub conditions-at : conditionsAt (encode N) ≡ 14 + length (written wordBytes (N .common .initial))
+  pub conditions-at : conditionsAt (encode w N) ≡ 14 + length (written wordBytes (N .common .initial))
   unfolding conditionsAt
   conditions-at = initial-stands .end
 
-  pub actions-at : actionsAt (encode N) ≡ conditionsAt (encode N) + length (written textBytes (N .common .conditions))
+  pub actions-at : actionsAt (encode w N) ≡ conditionsAt (encode w N) + length (written (textBytes w) (N .common .conditions))
   unfolding actionsAt
-  actions-at = conditions-stand undoes-text .end
+  actions-at = conditions-stand (own-text w N) .end
 
-  pub transitions-at : transitionsAt (encode N) ≡ actionsAt (encode N) + length (written textBytes (N .common .actions))
+  pub transitions-at : transitionsAt (encode w N) ≡ actionsAt (encode w N) + length (written (textBytes false) (N .common .actions))
   unfolding transitionsAt
-  transitions-at = actions-stand undoes-text .end
+  transitions-at = actions-stand (undoes-text false) .end
 
-  pub templates-at : lastAt pairedForm (encode N) ≡ transitionsAt (encode N) + length (written pairedBytes (N .transitions))
+  pub templates-at : lastAt pairedForm (encode w N) ≡ transitionsAt (encode w N) + length (written pairedBytes (N .transitions))
   unfolding lastAt
   templates-at = transitions-stand undoes-paired .end
 
-  pub encode-end : after templateForm (lastIn (encode N)) (encode N) (lastAt pairedForm (encode N)) ≡ length (encode N)
-  encode-end = rw (templates-stand .end, templates-at, transitions-at, actions-at, conditions-at, length-encode N) (omega arith)
+  pub encode-end : after templateForm (lastIn (encode w N)) (encode w N) (lastAt pairedForm (encode w N)) ≡ length (encode w N)
+  encode-end = rw (templates-stand .end, templates-at, transitions-at, actions-at, conditions-at, length-encode w N) (omega arith)
 
-  pub decode-encode : networkOf (encode N) ≡ N
+  pub decode-encode : networkOf (encode w N) ≡ N
   unfolding networkOf commonOf encode
   decode-encode = λ i. record {
     common = record {
@@ -164,64 +174,63 @@ module _ (N : Network) (fits : length (N .common .initial) ≡ N .common .monito
       start = N .common .start;
       bad = half-same (N .common .bad) i;
       initial = (initial-stands .values ∙ map-same (N .common .initial)) i;
-      conditions = (conditions-stand undoes-text .values ∙ map-same (N .common .conditions)) i;
-      actions = (actions-stand undoes-text .values ∙ map-same (N .common .actions)) i;
+      conditions = (conditions-stand (own-text w N) .values ∙ map-same (N .common .conditions)) i;
+      actions = (actions-stand (undoes-text false) .values ∙ map-same (N .common .actions)) i;
     };
     transitions = (transitions-stand undoes-paired .values ∙ map-same (N .transitions)) i;
     templates = (templates-stand .values ∙ map-same (N .templates)) i;
   }
 
--- The length bytes of formed conditions and actions.
-module _ (C : Common) (h : formed C ≡ true) where
-  formed-conditions : every (between 1 longest) (map (λ t. length t) (C .conditions)) ≡ true
-  unfolding formed conditionWhich
-  formed-conditions = rw every-map (every-weaker _ _ (λ t e. and-parts (sized 1 t) _ e .0) (C .conditions) (and-parts (every (conditionWhich (λ _. true) (lentIn C)) (C .conditions)) _ h .0))
-
-  formed-actions : every (between 0 longest) (map (λ t. length t) (C .actions)) ≡ true
-  unfolding formed actionWhich
-  formed-actions = rw every-map (every-weaker _ _ (λ t e. and-parts (sized 0 t) _ e .0) (C .actions) (and-parts (every (conditionWhich (λ _. true) (lentIn C)) (C .conditions)) _ h .1))
-
 passes : (M N : Network) → M ≡ N → (p : Network → Bool) → p N ≡ true → p M ≡ true
 passes M N e p h = ap p e ∙ h
 
 -- A network that is admitted is read without a refusal.
-module _ (N : Network) where
-  encode-whole : whole (encode N) ≡ true
+module _ (w : Bool) (N : Network) where
+  encode-whole : whole (encode w N) ≡ true
   unfolding whole encode
-  encode-whole = simp (and-iff, leb-iff, eqb-iff) (omega arith, half-same (14 + length (tableBytes N)) ∙ omega arith)
+  encode-whole = simp (and-iff, leb-iff, eqb-iff) (omega arith, half-same (14 + length (tableBytes w N)) ∙ omega arith)
 
-  encode-counted : withinCounts N ≡ true → counted networkLayout (encode N) ≡ true
+  encode-version : networkLayout .version (byte (encode w N) 2) ≡ true
+  unfolding encode
+  encode-version = go w
+    where
+      go : (v : Bool) → networkLayout .version (cond v 3 2) ≡ true
+      go true = refl
+      go false = refl
+
+  encode-counted : withinCounts w N ≡ true → counted networkLayout (encode w N) ≡ true
   unfolding withinCounts counted encode
   encode-counted h =
       let (q, (u, (p, (v, (c, (a, (n, (l, (b, (d, (g, i))))))))))) = simp and-iff at h in
-      rw half-same (simp and-iff (q, (u, (p, (v, (c, (a, (n, (l, (b, (d, g)))))))))))
+      rw (encode-wide w N, half-same) (simp and-iff (q, (u, (p, (v, (c, (a, (n, (l, (b, (d, g)))))))))))
 
-  encode-fits : withinCounts N ≡ true → length (N .common .initial) ≡ N .common .monitors
+  encode-fits : withinCounts w N ≡ true → length (N .common .initial) ≡ N .common .monitors
   unfolding withinCounts
   encode-fits h = let (q, (u, (p, (v, (c, (a, (n, (l, (b, (d, (g, i))))))))))) = simp (and-iff, eqb-iff) at h in i
 
-  module _ (fits : length (N .common .initial) ≡ N .common .monitors) (m : every (λ t. between 0 4 (length (t .pairs))) (N .transitions) ≡ true) (f : formed (N .common) ≡ true) where
-    encode-tabled : tabled networkLayout (encode N) ≡ true
-    unfolding tabled
+  module _ (fits : length (N .common .initial) ≡ N .common .monitors) (m : every (λ t. between 0 4 (length (t .pairs))) (N .transitions) ≡ true) (f : withinLengths w N ≡ true) where
+    encode-tabled : tabled networkLayout (encode w N) ≡ true
+    unfolding tabled withinLengths
     encode-tabled =
-        rw (conditions-stand N fits undoes-length .values, actions-stand N fits undoes-length .values, transitions-stand N fits undoes-pair-count .values, every-map (between 0 4) (λ t. length (t .pairs)) (N .transitions), encode-end N fits)
-        (and-both (formed-conditions (N .common) f) (and-both (formed-actions (N .common) f) (and-both m (eq-eqb (length (encode N)) (length (encode N)) refl))))
+        let (x, y) = simp and-iff at f in
+        rw (encode-wide w N, conditions-stand w N fits (undoes-length w) .values, actions-stand w N fits (undoes-length false) .values, transitions-stand w N fits undoes-pair-count .values, every-map (between 0 4) (λ t. length (t .pairs)) (N .transitions), encode-end w N fits)
+        (and-both (every-map (between 1 (mostBytes w)) (λ t. length t) (N .common .conditions) ∙ x) (and-both (every-map (between 0 (mostBytes false)) (λ t. length t) (N .common .actions) ∙ y) (and-both m (eq-eqb (length (encode w N)) (length (encode w N)) refl))))
 
-  pub accepted-encode : admitted N ≡ true → Accepted networkLayout (encode N)
+  pub accepted-encode : admitted w N ≡ true → Accepted networkLayout (encode w N)
   unfolding admitted networkOf encode
   accepted-encode h =
-      let (c, (m, (f, (r, o)))) = simp and-iff at h in
-      let e = decode-encode N (encode-fits c) in
+      let (c, (k, (m, (f, (r, o))))) = simp and-iff at h in
+      let e = decode-encode w N (encode-fits c) in
       record {
         whole = encode-whole;
-        version = refl;
+        version = encode-version;
         counted = encode-counted c;
-        tabled = encode-tabled (encode-fits c) m f;
-        formed = passes (networkOf (encode N)) N e (λ M. formed (M .common)) f;
-        ranged = passes (networkOf (encode N)) N e (λ M. ranged networkLayout (M .common) (M .transitions) (M .templates)) r;
-        roled = passes (networkOf (encode N)) N e (λ M. roled networkLayout (M .common) (M .transitions) (M .templates)) o;
+        tabled = encode-tabled (encode-fits c) m k;
+        formed = passes (networkOf (encode w N)) N e (λ M. formed (M .common)) f;
+        ranged = passes (networkOf (encode w N)) N e (λ M. ranged networkLayout (M .common) (M .transitions) (M .templates)) r;
+        roled = passes (networkOf (encode w N)) N e (λ M. roled networkLayout (M .common) (M .transitions) (M .templates)) o;
         spread = refl;
       }
 
-  pub reading-encode : admitted N ≡ true → reading networkLayout (encode N) ≡ 0
-  reading-encode h = reading-accepted networkLayout (encode N) (accepted-encode h)
+  pub reading-encode : admitted w N ≡ true → reading networkLayout (encode w N) ≡ 0
+  reading-encode h = reading-accepted networkLayout (encode w N) (accepted-encode h)

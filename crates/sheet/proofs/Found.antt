@@ -8,7 +8,6 @@ use borrow.Author.Tests.{ltb-true}
 use lib.Dec.{ltb, eqb}
 use lib.ListN.{length, getD, drop}
 use lib.Seq.{drop-drop}
-use Rattle.condition.specs.Answer.{longest}
 use Rattle.sheet.specs.declared.walk.Walk.{Walk}
 use Rattle.sheet.specs.declared.walk.Texts.{Texts}
 use Rattle.sheet.specs.declared.Counts.{Counts}
@@ -16,8 +15,8 @@ use Rattle.sheet.specs.declared.Transition.{Transition}
 use Rattle.sheet.specs.declared.Pair.{Pair}
 use Rattle.sheet.specs.Bytes.{byte}
 use Rattle.sheet.specs.Table.{Form, records, table, after, every}
-use Rattle.sheet.specs.Decode.{wordForm, textForm, lengthForm, transitionForm, tripleForm, pairedForm, pairCountForm, templateForm, transitionOf, pairForm, conditionsAt, actionsAt, transitionsAt, lastAt}
-use Rattle.sheet.specs.Reading.{between, sheetLayout, networkLayout, noTemplate, pairRanged}
+use Rattle.sheet.specs.Decode.{wide, wordForm, textForm, lengthForm, transitionForm, tripleForm, pairedForm, pairCountForm, templateForm, transitionOf, pairForm, conditionsAt, actionsAt, transitionsAt, lastAt}
+use Rattle.sheet.specs.Reading.{between, mostBytes, sheetLayout, networkLayout, noTemplate, pairRanged}
 use Rattle.sheet.specs.Walk.{Walks, conditionLengths, actionLengths, FindsTexts, Finds, tablesOf}
 use Rattle.sheet.proofs.Tables.{fixed-after, fixed-start, length-records, table-at, and-true}
 use Rattle.sheet.proofs.Loops.{byte-here, byte-past}
@@ -28,24 +27,24 @@ unfolding every records
 every-always p F h zero s = refl
 every-always p F h (suc n) s = rw (h s, every-always p F h n (drop (F .size s) s))
 
-module _ (s : List ℕ) (v c a : ℕ) (ev : v ≡ byte s 6) (ec : c ≡ byte s 10) (ea : a ≡ byte s 11) (lv : v < 256) (lc : c < 256) (la : a < 256) (x y : Walk) (f : Walks textForm lengthForm 1 longest c s (14 + v * 4) 256 x) (g : Walks textForm lengthForm 0 longest a s (x .end) 256 y) where
+module _ (s : List ℕ) (v c a : ℕ) (ev : v ≡ byte s 6) (ec : c ≡ byte s 10) (ea : a ≡ byte s 11) (lv : v < 256) (lc : c < 256) (la : a < 256) (x y : Walk) (b : Bool) (eb : b ≡ wide s) (f : Walks (textForm b) (lengthForm b) 1 (mostBytes b) c s (14 + v * 4) 65537 x) (g : Walks (textForm false) (lengthForm false) 0 (mostBytes false) a s (x .end) 65537 y) where
   at-conditions : 14 + v * 4 ≡ conditionsAt s
   unfolding conditionsAt
   at-conditions = ap (λ (n : ℕ). 14 + n * 4) ev ∙ sym (fixed-after wordForm 4 (λ t. refl) (byte s 6) s 14)
 
   at-actions : x .end ≡ actionsAt s
   unfolding actionsAt
-  at-actions = ap (λ (w : Walk). w .end) (f .all) ∙ ap₂ (λ (n b : ℕ). after textForm n s b) ec at-conditions
+  at-actions = ap (λ (w : Walk). w .end) (f .all) ∙ ap (λ (u : Bool). after (textForm u) c s (14 + v * 4)) eb ∙ ap₂ (λ (n b : ℕ). after (textForm (wide s)) n s b) ec at-conditions
 
   at-transitions : y .end ≡ transitionsAt s
   unfolding transitionsAt
-  at-transitions = ap (λ (w : Walk). w .end) (g .all) ∙ ap₂ (λ (n b : ℕ). after textForm n s b) ea at-actions
+  at-transitions = ap (λ (w : Walk). w .end) (g .all) ∙ ap₂ (λ (n b : ℕ). after (textForm false) n s b) ea at-actions
 
   first-lengths : x .ok ≡ conditionLengths s
-  first-lengths = ap (λ (w : Walk). w .ok) (f .all) ∙ ap₂ (λ (n b : ℕ). every (between 1 longest) (table lengthForm n s b)) ec at-conditions
+  first-lengths = ap (λ (w : Walk). w .ok) (f .all) ∙ ap (λ (u : Bool). every (between 1 (mostBytes u)) (table (lengthForm u) c s (14 + v * 4))) eb ∙ ap₂ (λ (n b : ℕ). every (between 1 (mostBytes (wide s))) (table (lengthForm (wide s)) n s b)) ec at-conditions
 
   second-lengths : y .ok ≡ actionLengths s
-  second-lengths = ap (λ (w : Walk). w .ok) (g .all) ∙ ap₂ (λ (n b : ℕ). every (between 0 longest) (table lengthForm n s b)) ea at-actions
+  second-lengths = ap (λ (w : Walk). w .ok) (g .all) ∙ ap₂ (λ (n b : ℕ). every (between 0 (mostBytes false)) (table (lengthForm false) n s b)) ea at-actions
 
   pub texts-found : FindsTexts s (record { conditions = 14 + v * 4; actions = x .end; transitions = y .end; first = x .ok; second = y .ok })
   texts-found =

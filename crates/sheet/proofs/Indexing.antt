@@ -1,5 +1,6 @@
 -- An array of the places where the texts of a table begin. Assumes nothing.
 use mathlib.Core.Path.{_≡_, refl, ap, subst, _∙_}
+use mathlib.Core.Bool.{Bool}
 use mathlib.Core.List.{List, [], _∷_, _++_, append-assoc, append-nil}
 use Prim.Native.Nat.{ℕ, zero, suc, _+_, _-_, _*_, _≤_, _<_}
 use native.Mathlib.Nat.{sub-zero}
@@ -7,7 +8,6 @@ use native.Mathlib.Numerals.{add-one}
 use native.Mathlib.Omega.{arith}
 use lib.ListN.{length, set, drop, replicate, length-append, length-set}
 use lib.Seq.{sets, set-append-seam, set-out}
-use Rattle.sheet.specs.Bytes.{byte}
 use Rattle.sheet.specs.Table.{starts, fit}
 use Rattle.sheet.specs.Decode.{textForm}
 
@@ -34,27 +34,27 @@ module _ {A : Type 0} (d : A) where
   sets-fit n l = sets-behind l n []
 
 -- the places of the texts from number i on, stored from i on, give them all
-pub record Indexed (n : ℕ) (s : List ℕ) (at : ℕ) (out : List ℕ) (i place : ℕ) : Type 0 where
-  pub all : sets out i (starts textForm (n - i) s place) ≡ fit 65 0 (starts textForm n s at)
-  pub room : place ≤ at + 256 * i
+pub record Indexed (w : Bool) (n : ℕ) (s : List ℕ) (at : ℕ) (out : List ℕ) (i place : ℕ) : Type 0 where
+  pub all : sets out i (starts (textForm w) (n - i) s place) ≡ fit 161 0 (starts (textForm w) n s at)
+  pub room : place ≤ at + 65537 * i
   pub few : i ≤ n
-  pub long : length out ≡ 65
+  pub long : length out ≡ 161
 
-module _ (n : ℕ) (s : List ℕ) (at : ℕ) where
-  pub indexed-start : Indexed n s at (replicate 65 0) 0 at
-  indexed-start = record { all = rw (sub-zero n) (sets-fit 0 65 (starts textForm n s at)); room = omega arith; few = omega arith; long = refl }
+module _ (w : Bool) (n : ℕ) (s : List ℕ) (at : ℕ) where
+  pub indexed-start : Indexed w n s at (replicate 161 0) 0 at
+  indexed-start = record { all = rw (sub-zero n) (sets-fit 0 161 (starts (textForm w) n s at)); room = omega arith; few = omega arith; long = refl }
 
-  pub indexed-next : (out : List ℕ) (i place : ℕ) → Indexed n s at out i place → i < n → (k : ℕ) → k ≡ byte (drop place s) 0 → k < 256 → Indexed n s at (set out i place) (i + 1) (place + (1 + k))
+  pub indexed-next : (out : List ℕ) (i place : ℕ) → Indexed w n s at out i place → i < n → (k : ℕ) → k ≡ textForm w .size (drop place s) → k ≤ 65537 → Indexed w n s at (set out i place) (i + 1) (place + k)
   unfolding starts
   indexed-next out i place g h k e l =
       let m : n - i ≡ suc (n - (i + 1)) = omega arith in
       record { all = rw (add-one i, e) (rw (add-one i) at (rw m at (g .all))); room = omega (arith, g .room); few = omega arith; long = length-set out i place ∙ g .long }
 
   -- past the last place nothing is stored
-  pub indexed-past : (out : List ℕ) (i place : ℕ) → Indexed n s at out i place → i < n → 65 ≤ i → (k : ℕ) → k ≡ byte (drop place s) 0 → k < 256 → Indexed n s at out (i + 1) (place + (1 + k))
-  indexed-past out i place g h p k e l = subst (λ (o : List ℕ). Indexed n s at o (i + 1) (place + (1 + k))) (set-out out i place (omega (arith, g .long))) (indexed-next out i place g h k e l)
+  pub indexed-past : (out : List ℕ) (i place : ℕ) → Indexed w n s at out i place → i < n → 161 ≤ i → (k : ℕ) → k ≡ textForm w .size (drop place s) → k ≤ 65537 → Indexed w n s at out (i + 1) (place + k)
+  indexed-past out i place g h p k e l = subst (λ (o : List ℕ). Indexed w n s at o (i + 1) (place + k)) (set-out out i place (omega (arith, g .long))) (indexed-next out i place g h k e l)
 
-  pub indexed-end : (out : List ℕ) (i place : ℕ) → Indexed n s at out i place → n ≤ i → out ≡ fit 65 0 (starts textForm n s at)
+  pub indexed-end : (out : List ℕ) (i place : ℕ) → Indexed w n s at out i place → n ≤ i → out ≡ fit 161 0 (starts (textForm w) n s at)
   unfolding starts
   indexed-end out i place g h =
       let m : n - i ≡ 0 = omega arith in

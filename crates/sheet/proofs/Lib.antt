@@ -2,6 +2,7 @@
 pub mod Tests
 pub mod Tables
 pub mod Loops
+pub mod Widths
 pub mod Found
 pub mod Crowd
 pub mod Indexing
@@ -10,6 +11,7 @@ pub mod Refusals
 pub mod Logs
 pub mod Encoding
 pub mod Accepted
+pub mod Placed
 pub mod Answers
 pub mod Limits
 pub mod Rows

@@ -1,6 +1,6 @@
 -- Reading a log and its records, and what the crate's readers answer. Assumes nothing.
 use mathlib.Core.Path.{_≡_, refl, subst, _∙_}
-use mathlib.Core.Bool.{true, false, _&&_}
+use mathlib.Core.Bool.{Bool, true, false, _&&_}
 use mathlib.Core.List.{List}
 use Prim.Native.Nat.{ℕ, zero, suc, _+_, _-_, _*_, _/_, _%_, _≤_, _<_}
 use native.Mathlib.Nat.{sub-zero}
@@ -15,7 +15,7 @@ use Rattle.sheet.specs.declared.LogReading.the-variants as log
 use Rattle.sheet.specs.declared.walk.Tables.{Tables}
 use Rattle.sheet.specs.Bytes.{byte, half, word}
 use Rattle.sheet.specs.Table.{records, table, starts, fit}
-use Rattle.sheet.specs.Decode.{wordForm, textForm, conditionsIn, actionsIn}
+use Rattle.sheet.specs.Decode.{wordForm, wide, textForm, conditionsIn, actionsIn}
 use Rattle.sheet.specs.Reading.{Layout}
 use Rattle.sheet.specs.Log.{recordSize, logReading, recordsIn}
 use Rattle.sheet.specs.Answer.{answer, logAnswer, placesOf}
@@ -31,9 +31,9 @@ answer-refused zero h = absurd (h refl)
 answer-refused (suc n) h = refl
 
 -- the index and the places
-module _ {T R : Type 0} (F : Layout T R) (s : List ℕ) (t : Tables) (f : Finds F s t) (n m : ℕ) (en : n ≡ conditionsIn s) (em : m ≡ actionsIn s) (x y : List ℕ) (ex : x ≡ fit 65 0 (starts textForm n s (t .conditions))) (ey : y ≡ fit 65 0 (starts textForm m s (t .actions))) where
+module _ {T R : Type 0} (F : Layout T R) (s : List ℕ) (t : Tables) (f : Finds F s t) (n m : ℕ) (en : n ≡ conditionsIn s) (em : m ≡ actionsIn s) (b : Bool) (eb : b ≡ wide s) (x y : List ℕ) (ex : x ≡ fit 161 0 (starts (textForm b) n s (t .conditions))) (ey : y ≡ fit 161 0 (starts (textForm false) m s (t .actions))) where
   first-index : x ≡ placesOf F s .conditions
-  first-index = ex ∙ rw (en, texts-there F s t f .0)
+  first-index = ex ∙ rw (eb, en, texts-there F s t f .0)
 
   second-index : y ≡ placesOf F s .actions
   second-index = ey ∙ rw (em, texts-there F s t f .1)

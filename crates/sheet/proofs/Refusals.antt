@@ -4,7 +4,7 @@ use mathlib.Core.Bool.{Bool, true, false, not, _&&_}
 use mathlib.Core.List.{List, [], _∷_}
 use Prim.Native.Nat.{ℕ, _≤_}
 use native.Mathlib.Omega.{arith}
-use borrow.Author.Tests.{eq-eqb, ne-eqb, ltb-true, ltb-false}
+use borrow.Author.Tests.{ltb-true, ltb-false}
 use lib.Dec.{eqb, ltb, leb}
 use lib.ListN.{length, getD, drop, List·getD-eq-default}
 use Rattle.condition.specs.declared.Lent.{Lent}
@@ -20,7 +20,7 @@ use Rattle.sheet.specs.declared.walk.Tables.{Tables}
 use Rattle.sheet.specs.Bytes.{byte}
 use Rattle.sheet.specs.Table.{table, starts, fit, every}
 use Rattle.sheet.specs.Parts.{Paired}
-use Rattle.sheet.specs.Decode.{textForm, transitionForm, tripleForm, pairedForm, templateForm, conditionsIn, actionsIn, transitionsIn, lastIn, lastAt, conditionsAt, actionsAt, transitionsAt, commonOf}
+use Rattle.sheet.specs.Decode.{wide, textForm, transitionForm, tripleForm, pairedForm, templateForm, conditionsIn, actionsIn, transitionsIn, lastIn, lastAt, conditionsAt, actionsAt, transitionsAt, commonOf}
 use Rattle.sheet.specs.Reading.{together, transitionRanged, tripleRanged, templateRanged, countsOf, countsHold, Layout, Use, guard, precondition, postcondition, between, lentIn, conditionIn, usedWell, whole, counted, tabled, formed, ranged, roled, transitionsOf, lastOf, reading, sheetLayout, networkLayout}
 use Rattle.sheet.specs.Walk.{pairedRanged, Finds, conditionLengths, actionLengths, tablesOf, namesAt, guardSuits, preconditionSuits, tripleSuits, pairedSuits, templateSuits}
 use Rattle.sheet.proofs.Tests.{and-iff, leb-iff}
@@ -33,43 +33,43 @@ module _ {T R : Type 0} (F : Layout T R) (s : List ℕ) where
   refuse-1 e = rw e
 
   module _ (a : whole s ≡ true) where
-    pub refuse-2 : (byte s 2 ≡ F .version → ⊥) → 2 ≡ reading F s
+    pub refuse-2 : F .version (byte s 2) ≡ false → 2 ≡ reading F s
     unfolding reading
-    refuse-2 e = rw (a, ne-eqb (byte s 2) (F .version) e)
+    refuse-2 e = rw (a, e)
 
-    module _ (b : byte s 2 ≡ F .version) where
+    module _ (b : F .version (byte s 2) ≡ true) where
       pub refuse-3 : counted F s ≡ false → 3 ≡ reading F s
       unfolding reading
-      refuse-3 e = rw (a, eq-eqb (byte s 2) (F .version) b, e)
+      refuse-3 e = rw (a, b, e)
 
       module _ (c : counted F s ≡ true) where
         pub refuse-4 : tabled F s ≡ false → 4 ≡ reading F s
         unfolding reading
-        refuse-4 e = rw (a, eq-eqb (byte s 2) (F .version) b, c, e)
+        refuse-4 e = rw (a, b, c, e)
 
         module _ (d : tabled F s ≡ true) where
           pub refuse-5 : formed (commonOf s) ≡ false → 5 ≡ reading F s
           unfolding reading
-          refuse-5 e = rw (a, eq-eqb (byte s 2) (F .version) b, c, d, e)
+          refuse-5 e = rw (a, b, c, d, e)
 
           module _ (f : formed (commonOf s) ≡ true) where
             pub refuse-6 : ranged F (commonOf s) (transitionsOf F s) (lastOf F s) ≡ false → 6 ≡ reading F s
             unfolding reading
-            refuse-6 e = rw (a, eq-eqb (byte s 2) (F .version) b, c, d, f, e)
+            refuse-6 e = rw (a, b, c, d, f, e)
 
             module _ (g : ranged F (commonOf s) (transitionsOf F s) (lastOf F s) ≡ true) where
               pub refuse-7 : roled F (commonOf s) (transitionsOf F s) (lastOf F s) ≡ false → 7 ≡ reading F s
               unfolding reading
-              refuse-7 e = rw (a, eq-eqb (byte s 2) (F .version) b, c, d, f, g, e)
+              refuse-7 e = rw (a, b, c, d, f, g, e)
 
               module _ (h : roled F (commonOf s) (transitionsOf F s) (lastOf F s) ≡ true) where
                 pub refuse-8 : F .spread (lastOf F s) ≡ false → 8 ≡ reading F s
                 unfolding reading
-                refuse-8 e = rw (a, eq-eqb (byte s 2) (F .version) b, c, d, f, g, h, e)
+                refuse-8 e = rw (a, b, c, d, f, g, h, e)
 
                 pub refuse-none : F .spread (lastOf F s) ≡ true → 0 ≡ reading F s
                 unfolding reading
-                refuse-none e = rw (a, eq-eqb (byte s 2) (F .version) b, c, d, f, g, h, e)
+                refuse-none e = rw (a, b, c, d, f, g, h, e)
 
 -- 4 from the tables that were found
 pub tabled-found : {T R : Type 0} (F : Layout T R) (s : List ℕ) (t : Tables) → t ≡ tablesOf F s → (t .ok && eqb (t .end) (length s)) ≡ tabled F s
@@ -86,22 +86,22 @@ names-nothing : (p : Variable → Bool) (L : Lent) → conditionWhich (λ c. con
 unfolding conditionWhich parseCondition conditionFrom conditionOperator conditionNames
 names-nothing p L = refl
 
-pub names-number : (p : Variable → Bool) (s : List ℕ) (n a : ℕ) (L : Lent) (i : ℕ) → n ≤ 65 → namesAt p s (fit 65 0 (starts textForm n s a)) n L i ≡ conditionWhich (λ c. conditionNames c p) L (getD (table textForm n s a) i (0 ∷ []))
+pub names-number : (p : Variable → Bool) (s : List ℕ) (n a : ℕ) (L : Lent) (i : ℕ) → n ≤ 161 → namesAt p s (fit 161 0 (starts (textForm (wide s)) n s a)) n L i ≡ conditionWhich (λ c. conditionNames c p) L (getD (table (textForm (wide s)) n s a) i (0 ∷ []))
 names-number p s n a L i h = go (ltb i n) refl
   where
-    go : (b : Bool) → ltb i n ≡ b → (b && conditionWhich (λ c. conditionNames c p) L (textForm .value (drop (getD (fit 65 0 (starts textForm n s a)) i 0) s))) ≡ conditionWhich (λ c. conditionNames c p) L (getD (table textForm n s a) i (0 ∷ []))
+    go : (b : Bool) → ltb i n ≡ b → (b && conditionWhich (λ c. conditionNames c p) L (textForm (wide s) .value (drop (getD (fit 161 0 (starts (textForm (wide s)) n s a)) i 0) s))) ≡ conditionWhich (λ c. conditionNames c p) L (getD (table (textForm (wide s)) n s a) i (0 ∷ []))
     go true e =
         let less = ltb-true i n e in
-        ap (conditionWhich (λ c. conditionNames c p) L) (indexed textForm 65 n s a i (0 ∷ []) less h)
+        ap (conditionWhich (λ c. conditionNames c p) L) (indexed (textForm (wide s)) 161 n s a i (0 ∷ []) less h)
     go false e =
-        let long = length-records textForm n (drop a s) in
+        let long = length-records (textForm (wide s)) n (drop a s) in
         let past = ltb-false i n e in
-        rw (List·getD-eq-default (table textForm n s a) (0 ∷ []) {n = i} (omega arith)) (sym (names-nothing p L))
+        rw (List·getD-eq-default (table (textForm (wide s)) n s a) (0 ∷ []) {n = i} (omega arith)) (sym (names-nothing p L))
 
 -- 7, role by role, of what the index says
-module _ (s : List ℕ) (few : byte s 10 ≤ 65) where
+module _ (s : List ℕ) (few : byte s 10 ≤ 161) where
   abbrev numbered : List ℕ
-  numbered = fit 65 0 (starts textForm (conditionsIn s) s (conditionsAt s))
+  numbered = fit 161 0 (starts (textForm (wide s)) (conditionsIn s) s (conditionsAt s))
 
   by-number : (p : Variable → Bool) (i : ℕ) → namesAt p s numbered (conditionsIn s) (lentIn (commonOf s)) i ≡ conditionWhich (λ c. conditionNames c p) (lentIn (commonOf s)) (conditionIn (commonOf s) i)
   unfolding commonOf
@@ -138,20 +138,28 @@ module _ (s : List ℕ) (few : byte s 10 ≤ 65) where
 module _ (s : List ℕ) where
   pub counts-found : (q u c a : ℕ) → q ≡ byte s 3 → u ≡ byte s 4 → c ≡ byte s 10 → a ≡ byte s 11 → record { states = q; units = u; conditions = c; actions = a } ≡ countsOf (commonOf s)
   unfolding commonOf
-  counts-found q u c a eq eu ec ea = λ i. record { states = eq i; units = eu i; conditions = (ec ∙ sym (length-records textForm (byte s 10) (drop (conditionsAt s) s))) i; actions = (ea ∙ sym (length-records textForm (byte s 11) (drop (actionsAt s) s))) i }
+  counts-found q u c a eq eu ec ea = λ i. record { states = eq i; units = eu i; conditions = (ec ∙ sym (length-records (textForm (wide s)) (byte s 10) (drop (conditionsAt s) s))) i; actions = (ea ∙ sym (length-records (textForm false) (byte s 11) (drop (actionsAt s) s))) i }
 
   pub lent-found : (p m k : ℕ) → p ≡ byte s 5 → m ≡ byte s 6 → k ≡ byte s 5 → record { programs = p; monitors = m; kept = k } ≡ lentIn (commonOf s)
   unfolding commonOf
   lent-found p m k ep em ek = λ i. record { programs = ep i; monitors = em i; kept = ek i }
 
-  pub few-conditions : (c a t : ℕ) → c ≤ 65 → countsHold c a t s ≡ true → byte s 10 ≤ 65
+  pub few-conditions : (c a t : ℕ) → c ≤ 161 → countsHold c a t s ≡ true → byte s 10 ≤ 161
   few-conditions c a t h e = let f = simp (and-iff, leb-iff) at e in omega arith
+
+  pub few-network : counted networkLayout s ≡ true → byte s 10 ≤ 161
+  unfolding counted
+  few-network e = few-conditions (networkLayout .conditions (wide s)) 33 96 (go (wide s)) e
+    where
+      go : (w : Bool) → networkLayout .conditions w ≤ 161
+      go true = omega arith
+      go false = omega arith
 
 -- 5, 6 and 7 of a whole sheet or network
 module _ (s : List ℕ) (l : Lent) (el : l ≡ lentIn (commonOf s)) where
-  pub formed-found : (n m a b : ℕ) (x y : Bool) → n ≡ conditionsIn s → m ≡ actionsIn s → a ≡ conditionsAt s → b ≡ actionsAt s → x ≡ every (conditionWhich (λ _. true) l) (table textForm n s a) → y ≡ every (actionWhich (λ _. true) l) (table textForm m s b) → (x && y) ≡ formed (commonOf s)
+  pub formed-found : (w : Bool) → w ≡ wide s → (n m a b : ℕ) (x y : Bool) → n ≡ conditionsIn s → m ≡ actionsIn s → a ≡ conditionsAt s → b ≡ actionsAt s → x ≡ every (conditionWhich (λ _. true) l) (table (textForm w) n s a) → y ≡ every (actionWhich (λ _. true) l) (table (textForm false) m s b) → (x && y) ≡ formed (commonOf s)
   unfolding formed commonOf
-  formed-found n m a b x y en em ea eb ex ey = cc
+  formed-found w ew n m a b x y en em ea eb ex ey = cc
 
 module _ (s : List ℕ) (k : Counts) (ek : k ≡ countsOf (commonOf s)) (n m a b : ℕ) (en : n ≡ transitionsIn s) (em : m ≡ lastIn s) (ea : a ≡ transitionsAt s) (x y : Bool) where
   pub sheet-ranged-found : b ≡ lastAt transitionForm s → x ≡ every (transitionRanged k) (table transitionForm n s a) → y ≡ every (tripleRanged k) (table tripleForm m s b) → (x && y) ≡ ranged sheetLayout (commonOf s) (transitionsOf sheetLayout s) (lastOf sheetLayout s)
@@ -162,13 +170,13 @@ module _ (s : List ℕ) (k : Counts) (ek : k ≡ countsOf (commonOf s)) (n m a b
   unfolding ranged
   network-ranged-found eb ex ey = rw (ex, ey, ek, en, ea, em, eb)
 
-module _ (s : List ℕ) (few : byte s 10 ≤ 65) (l : Lent) (el : l ≡ lentIn (commonOf s)) (index : List ℕ) (c d : ℕ) (ei : index ≡ fit 65 0 (starts textForm c s d)) (ec : c ≡ conditionsIn s) (ed : d ≡ conditionsAt s) (k e : ℕ) (ek : k ≡ actionsIn s) (ee : e ≡ actionsAt s) (n m a b : ℕ) (en : n ≡ transitionsIn s) (em : m ≡ lastIn s) (ea : a ≡ transitionsAt s) (w x y : Bool) (ew : w ≡ every (λ t. not (actionWhich (λ r. actionNames r isAtEntry) l t)) (table textForm k s e)) where
+module _ (s : List ℕ) (few : byte s 10 ≤ 161) (l : Lent) (el : l ≡ lentIn (commonOf s)) (v : Bool) (ev : v ≡ wide s) (index : List ℕ) (c d : ℕ) (ei : index ≡ fit 161 0 (starts (textForm v) c s d)) (ec : c ≡ conditionsIn s) (ed : d ≡ conditionsAt s) (k e : ℕ) (ek : k ≡ actionsIn s) (ee : e ≡ actionsAt s) (n m a b : ℕ) (en : n ≡ transitionsIn s) (em : m ≡ lastIn s) (ea : a ≡ transitionsAt s) (w x y : Bool) (ew : w ≡ every (λ t. not (actionWhich (λ r. actionNames r isAtEntry) l t)) (table (textForm false) k s e)) where
   free-found : w ≡ every (λ t. not (actionWhich (λ r. actionNames r isAtEntry) (lentIn (commonOf s)) t)) (commonOf s .actions)
   unfolding commonOf
   free-found = ew ∙ rw (el, ek, ee)
 
-  index-found : index ≡ fit 65 0 (starts textForm (conditionsIn s) s (conditionsAt s))
-  index-found = ei ∙ rw (ec, ed)
+  index-found : index ≡ fit 161 0 (starts (textForm (wide s)) (conditionsIn s) s (conditionsAt s))
+  index-found = ei ∙ rw (ev, ec, ed)
 
   pub sheet-roled-found : b ≡ lastAt transitionForm s → x ≡ every (guardSuits s index c l) (table transitionForm n s a) → y ≡ every (tripleSuits s index c l) (table tripleForm m s b) → (w && (x && y)) ≡ roled sheetLayout (commonOf s) (transitionsOf sheetLayout s) (lastOf sheetLayout s)
   unfolding roled
@@ -180,7 +188,7 @@ module _ (s : List ℕ) (few : byte s 10 ≤ 65) (l : Lent) (el : l ≡ lentIn (
 
 -- the places that were found
 module _ {T R : Type 0} (F : Layout T R) (s : List ℕ) (t : Tables) (f : Finds F s t) where
-  pub texts-there : (t .conditions ≡ conditionsAt s) × (t .actions ≡ actionsAt s) × (t .conditions ≤ 300000) × (t .actions ≤ 300000)
+  pub texts-there : (t .conditions ≡ conditionsAt s) × (t .actions ≡ actionsAt s) × (t .conditions ≤ 40000000) × (t .actions ≤ 40000000)
   texts-there = (ap (λ (u : Tables). u .conditions) (f .all), ap (λ (u : Tables). u .actions) (f .all), f .smallConditions, f .smallActions)
 
   pub transitions-there : t .transitions ≡ transitionsAt s
@@ -192,7 +200,7 @@ module _ {T R : Type 0} (F : Layout T R) (s : List ℕ) (t : Tables) (f : Finds 
   pub tabled-is : (b : Bool) → (t .ok && eqb (t .end) (length s)) ≡ b → tabled F s ≡ b
   tabled-is b e = sym (tabled-found F s t (f .all)) ∙ e
 
-pub counted-is : {T R : Type 0} (F : Layout T R) (s : List ℕ) (b : Bool) → countsHold (F .conditions) (F .actions) (F .transitions) s ≡ b → counted F s ≡ b
+pub counted-is : {T R : Type 0} (F : Layout T R) (s : List ℕ) (b : Bool) → countsHold (F .conditions (wide s)) (F .actions) (F .transitions) s ≡ b → counted F s ≡ b
 unfolding counted
 counted-is F s b e = e
 

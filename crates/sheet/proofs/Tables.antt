@@ -1,10 +1,10 @@
 -- Laws of tables of any form, and of tests on all elements of a list. Assumes nothing.
-use mathlib.Core.Path.{_≡_, refl, sym, ap, ap₂}
+use mathlib.Core.Path.{_≡_, refl, sym, ap, ap₂, _∙_}
 use mathlib.Core.Bool.{Bool, true, false, _&&_, and-eq-true-iff}
 use mathlib.Core.List.{List, [], _∷_, _++_, map}
 use Prim.Native.Nat.{ℕ, zero, suc, _+_, _*_, _≤_, _<_}
 use native.Mathlib.Omega.{arith}
-use native.Mathlib.Nat.{suc-mul, zero-mul, le-of-suc-le-suc}
+use native.Mathlib.Nat.{suc-mul, zero-mul, suc-add, zero-add, le-of-suc-le-suc}
 use lib.ListN.{length, drop, getD}
 use lib.Seq.{drop-drop}
 use Rattle.sheet.specs.Table.{Form, records, extent, table, after, starts, fit, every}
@@ -160,3 +160,21 @@ module _ {A : Type 0} where
   unfolding every
   every-same p q h [] = refl
   every-same p q h (x ∷ l) = ap₂ _&&_ (h x) (every-same p q h l)
+
+-- A table's first records, and the rest.
+module _ {A : Type 0} (F : Form A) where
+  pub extent-add : (k m : ℕ) (s : List ℕ) → extent F (k + m) s ≡ extent F k s + extent F m (drop (extent F k s) s)
+  unfolding extent
+  extent-add zero m s = ap (λ (k : ℕ). extent F k s) (zero-add m) ∙ sym (zero-add (extent F m s))
+  extent-add (suc k) m s = rw (suc-add k m, extent-add k m (drop (F .size s) s), drop-drop) (omega arith)
+
+  pub records-add : (k m : ℕ) (s : List ℕ) → records F (k + m) s ≡ records F k s ++ records F m (drop (extent F k s) s)
+  unfolding records extent
+  records-add zero m s = ap (λ (k : ℕ). records F k s) (zero-add m)
+  records-add (suc k) m s = rw (suc-add k m, records-add k m (drop (F .size s) s), drop-drop)
+
+  pub after-add : (k m : ℕ) (s : List ℕ) (a : ℕ) → after F (k + m) s a ≡ after F m s (after F k s a)
+  after-add k m s a = rw (extent-add k m (drop a s), drop-drop) (omega arith)
+
+  pub table-add : (k m : ℕ) (s : List ℕ) (a : ℕ) → table F (k + m) s a ≡ table F k s a ++ table F m s (after F k s a)
+  table-add k m s a = rw (records-add k m (drop a s), drop-drop)

@@ -1,4 +1,5 @@
 -- The answers of the crate's operations: the paper's numbers and values for each case.
+use mathlib.Core.Bool.{false}
 use mathlib.Core.List.{List}
 use Prim.Native.Nat.{ℕ, zero, suc}
 use Rattle.sheet.specs.declared.Reading.{Reading}
@@ -10,7 +11,7 @@ use Rattle.sheet.specs.declared.Places.{Places}
 use Rattle.sheet.specs.declared.Record.{Record}
 use Rattle.sheet.specs.Bytes.{byte, half}
 use Rattle.sheet.specs.Table.{starts, fit}
-use Rattle.sheet.specs.Decode.{textForm, conditionsIn, actionsIn, transitionsIn, lastIn, conditionsAt, actionsAt, transitionsAt, lastAt}
+use Rattle.sheet.specs.Decode.{wide, textForm, conditionsIn, actionsIn, transitionsIn, lastIn, conditionsAt, actionsAt, transitionsAt, lastAt}
 use Rattle.sheet.specs.Reading.{Layout}
 
 -- "accepted, or the first that applies"; 0 stands for none
@@ -43,8 +44,8 @@ headerOf s =
 abbrev pub placesOf : {T R : Type 0} → Layout T R → List ℕ → Places
 placesOf F s =
     record {
-      conditions = fit 65 0 (starts textForm (conditionsIn s) s (conditionsAt s));
-      actions = fit 65 0 (starts textForm (actionsIn s) s (actionsAt s));
+      conditions = fit 161 0 (starts (textForm (wide s)) (conditionsIn s) s (conditionsAt s));
+      actions = fit 161 0 (starts (textForm false) (actionsIn s) s (actionsAt s));
       transitions = transitionsAt s;
       last = lastAt (F .transition) s;
     }

@@ -1,6 +1,8 @@
 -- What the bytes of a sheet and of a network stand for (document 01, "Sheet layout", "Network layout and translation").
+use mathlib.Core.Bool.{Bool, false, cond}
 use mathlib.Core.List.{List}
 use Prim.Native.Nat.{ℕ, _+_, _*_}
+use lib.Dec.{eqb}
 use lib.ListN.{take, drop}
 use Rattle.sheet.specs.declared.Transition.{Transition}
 use Rattle.sheet.specs.declared.Triple.{Triple}
@@ -14,12 +16,23 @@ use Rattle.sheet.specs.Parts.{Common, Sheet, Paired, Network}
 abbrev pub wordForm : Form ℕ
 wordForm = record { value = λ s. word s 0; size = λ s. 4 }
 
--- "a length byte .., then that many bytes"; and the length byte alone
-abbrev pub textForm : Form (List ℕ)
-textForm = record { value = λ s. take (byte s 0) (drop 1 s); size = λ s. 1 + byte s 0 }
+-- "version 3, with two-byte condition lengths"
+abbrev pub wide : List ℕ → Bool
+wide s = eqb (byte s 2) 3
 
-abbrev pub lengthForm : Form ℕ
-lengthForm = record { value = λ s. byte s 0; size = λ s. 1 + byte s 0 }
+-- how many bytes the length takes, and the length: one byte, or two where lengths are wide
+abbrev pub lead : Bool → ℕ
+lead w = cond w 2 1
+
+abbrev pub said : Bool → List ℕ → ℕ
+said w s = cond w (half s 0) (byte s 0)
+
+-- "a length byte .., then that many bytes"; and the length alone
+abbrev pub textForm : Bool → Form (List ℕ)
+textForm w = record { value = λ s. take (said w s) (drop (lead w) s); size = λ s. lead w + said w s }
+
+abbrev pub lengthForm : Bool → Form ℕ
+lengthForm w = record { value = λ s. said w s; size = λ s. lead w + said w s }
 
 -- "transitions, 6 bytes: from, kind (0 entry, 1 exit), unit, condition, action, to"
 abbrev pub transitionOf : List ℕ → Transition
@@ -64,10 +77,10 @@ unfoldable pub conditionsAt : List ℕ → ℕ
 conditionsAt s = after wordForm (byte s 6) s 14
 
 unfoldable pub actionsAt : List ℕ → ℕ
-actionsAt s = after textForm (conditionsIn s) s (conditionsAt s)
+actionsAt s = after (textForm (wide s)) (conditionsIn s) s (conditionsAt s)
 
 unfoldable pub transitionsAt : List ℕ → ℕ
-transitionsAt s = after textForm (actionsIn s) s (actionsAt s)
+transitionsAt s = after (textForm false) (actionsIn s) s (actionsAt s)
 
 -- behind transitions of a form
 unfoldable pub lastAt : {A : Type 0} → Form A → List ℕ → ℕ
@@ -83,8 +96,8 @@ commonOf s =
       start = byte s 7;
       bad = half s 8;
       initial = table wordForm (byte s 6) s 14;
-      conditions = table textForm (conditionsIn s) s (conditionsAt s);
-      actions = table textForm (actionsIn s) s (actionsAt s);
+      conditions = table (textForm (wide s)) (conditionsIn s) s (conditionsAt s);
+      actions = table (textForm false) (actionsIn s) s (actionsAt s);
     }
 
 unfoldable pub sheetOf : List ℕ → Sheet

@@ -1,5 +1,5 @@
 -- Sheets and networks without their bytes (document 01, "Sheet layout", "Network layout and translation").
-use mathlib.Core.List.{List}
+use mathlib.Core.List.{List, map}
 use Prim.Native.Nat.{ℕ}
 use Rattle.sheet.specs.declared.Transition.{Transition}
 use Rattle.sheet.specs.declared.Triple.{Triple}
@@ -33,3 +33,7 @@ pub record Network : Type 0 where
   pub common : Common
   pub transitions : List Paired
   pub templates : List Template
+
+-- a network's transitions without their pairs
+abbrev pub bases : Network → List Transition
+bases N = map (λ (t : Paired). t .base) (N .transitions)

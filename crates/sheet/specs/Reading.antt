@@ -7,7 +7,7 @@ use lib.Dec.{leb, ltb, eqb}
 use lib.ListN.{length, getD}
 use Rattle.condition.specs.declared.Lent.{Lent}
 use Rattle.condition.specs.Tree.{conditionNames, actionNames, isMonitor, isAtEntry}
-use Rattle.condition.specs.Answer.{conditionWhich, actionWhich, longest}
+use Rattle.condition.specs.Answer.{conditionWhich, actionWhich}
 use Rattle.sheet.specs.declared.Counts.{Counts}
 use Rattle.sheet.specs.declared.Transition.{Transition}
 use Rattle.sheet.specs.declared.Triple.{Triple}
@@ -16,7 +16,7 @@ use Rattle.sheet.specs.declared.Template.{Template}
 use Rattle.sheet.specs.Bytes.{byte, half}
 use Rattle.sheet.specs.Table.{Form, table, after, every}
 use Rattle.sheet.specs.Parts.{Common, Paired}
-use Rattle.sheet.specs.Decode.{lengthForm, transitionForm, tripleForm, pairedForm, pairCountForm, templateForm, conditionsIn, actionsIn, transitionsIn, lastIn, conditionsAt, actionsAt, transitionsAt, lastAt, commonOf}
+use Rattle.sheet.specs.Decode.{wide, lengthForm, transitionForm, tripleForm, pairedForm, pairCountForm, templateForm, conditionsIn, actionsIn, transitionsIn, lastIn, conditionsAt, actionsAt, transitionsAt, lastAt, commonOf}
 
 -- The parts in which a condition is used.
 pub data Role : Type 0 where
@@ -26,11 +26,11 @@ pub record Use : Type 0 where
   pub number : ℕ
   pub role : Role
 
--- What tells a sheet's layout from a network's: the version, the most conditions, actions and transitions, the transitions T and the last table's
+-- What tells a sheet's layout from a network's: the versions, the most conditions (by whether their lengths are wide), actions and transitions, the transitions T and the last table's
 -- records R, how many pairs a transition says that it has, what 6 asks of both, in which roles they use conditions, and what 8 asks.
 pub record Layout (T R : Type 0) : Type 0 where
-  pub version : ℕ
-  pub conditions : ℕ
+  pub version : ℕ → Bool
+  pub conditions : Bool → ℕ
   pub actions : ℕ
   pub transitions : ℕ
   pub transition : Form T
@@ -72,12 +72,16 @@ countsHold conditions actions transitions s =
     && startHolds s)))))))
 
 unfoldable pub counted : {T R : Type 0} → Layout T R → List ℕ → Bool
-counted F s = countsHold (F .conditions) (F .actions) (F .transitions) s
+counted F s = countsHold (F .conditions (wide s)) (F .actions) (F .transitions) s
+
+-- the most bytes of a condition, by whether lengths are wide; and of an action, whose lengths never are
+abbrev pub mostBytes : Bool → ℕ
+mostBytes w = cond w 1024 64
 
 -- 4: "a length byte out of range, or the tables don't end exactly at the end"; for a network "4 includes n over 4"
 unfoldable pub tabled : {T R : Type 0} → Layout T R → List ℕ → Bool
 tabled F s =
-    every (between 1 longest) (table lengthForm (conditionsIn s) s (conditionsAt s)) && (every (between 0 longest) (table lengthForm (actionsIn s) s (actionsAt s)) && (every (between 0 4) (table (F .pairCounts) (transitionsIn s) s (transitionsAt s))
+    every (between 1 (mostBytes (wide s))) (table (lengthForm (wide s)) (conditionsIn s) s (conditionsAt s)) && (every (between 0 (mostBytes false)) (table (lengthForm false) (actionsIn s) s (actionsAt s)) && (every (between 0 4) (table (F .pairCounts) (transitionsIn s) s (transitionsAt s))
     && eqb (after (F .last) (lastIn s) s (lastAt (F .transition) s)) (length s)))
 
 -- 5: "a condition or action isn't exactly one, or exactly a run of assignments, by the grammar, or has a variable out of range"
@@ -128,7 +132,7 @@ lastOf F s = table (F .last) (lastIn s) s (lastAt (F .transition) s)
 unfoldable pub reading : {T R : Type 0} → Layout T R → List ℕ → ℕ
 reading F s =
     unless (whole s) 1
-    (unless (eqb (byte s 2) (F .version)) 2
+    (unless (F .version (byte s 2)) 2
     (unless (counted F s) 3
     (unless (tabled F s) 4
     (unless (formed (commonOf s)) 5
@@ -156,8 +160,8 @@ together t (u ∷ l) = cond (eqb (u .state) (t .state) && eqb (u .unit) (t .unit
 abbrev pub sheetLayout : Layout Transition Triple
 sheetLayout =
     record {
-      version = 1;
-      conditions = 64;
+      version = between 1 1;
+      conditions = λ w. 64;
       actions = 32;
       transitions = 64;
       transition = transitionForm;
@@ -180,13 +184,13 @@ pairRanged n rs t p = eqb (t .kind) 0 && (ltb (p .condition) (n .conditions) && 
 unfoldable pub templateRanged : Counts → Template → Bool
 templateRanged n t = ltb (t .unit) (n .units) && ltb (t .postcondition) (n .conditions)
 
--- "As the sheet, but version 2, with up to 65 conditions, 33 actions, 96 transitions"; "the same with its layout and without 8"; "In 7, pairs count as
+-- "As the sheet, but version 2, with up to 65 conditions, 33 actions, 96 transitions"; "version 3 allows up to 161 conditions of 1 to 1,024 bytes"; "the same with its layout and without 8"; "In 7, pairs count as
 -- preconditions"
 abbrev pub networkLayout : Layout Paired Template
 networkLayout =
     record {
-      version = 2;
-      conditions = 65;
+      version = between 2 3;
+      conditions = λ w. cond w 161 65;
       actions = 33;
       transitions = 96;
       transition = pairedForm;

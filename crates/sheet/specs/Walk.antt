@@ -1,5 +1,5 @@
 -- What the private functions that walk over the tables promise.
-use mathlib.Core.Bool.{Bool, not, _&&_}
+use mathlib.Core.Bool.{Bool, false, not, _&&_}
 use mathlib.Core.Path.{_≡_}
 use mathlib.Core.List.{List}
 use Prim.Native.Nat.{ℕ, _+_, _*_, _≤_}
@@ -7,7 +7,7 @@ use lib.Dec.{ltb}
 use lib.ListN.{getD, drop}
 use Rattle.condition.specs.declared.Lent.{Lent}
 use Rattle.condition.specs.Tree.{conditionNames, isMonitor, isAtEntry, Variable}
-use Rattle.condition.specs.Answer.{longest, conditionWhich}
+use Rattle.condition.specs.Answer.{conditionWhich}
 use Rattle.sheet.specs.declared.Transition.{Transition}
 use Rattle.sheet.specs.declared.Triple.{Triple}
 use Rattle.sheet.specs.declared.Pair.{Pair}
@@ -17,9 +17,9 @@ use Rattle.sheet.specs.declared.walk.Walk.{Walk}
 use Rattle.sheet.specs.declared.walk.Texts.{Texts}
 use Rattle.sheet.specs.declared.walk.Tables.{Tables}
 use Rattle.sheet.specs.Table.{Form, table, after, every}
-use Rattle.sheet.specs.Decode.{textForm, lengthForm, conditionsIn, actionsIn, transitionsIn, lastIn, conditionsAt, actionsAt, transitionsAt, lastAt}
+use Rattle.sheet.specs.Decode.{wide, textForm, lengthForm, conditionsIn, actionsIn, transitionsIn, lastIn, conditionsAt, actionsAt, transitionsAt, lastAt}
 use Rattle.sheet.specs.declared.Counts.{Counts}
-use Rattle.sheet.specs.Reading.{Layout, between, transitionRanged, pairRanged}
+use Rattle.sheet.specs.Reading.{Layout, between, mostBytes, transitionRanged, pairRanged}
 
 -- whether every length byte of a table is in range, and where the table ends
 abbrev pub walked : {A : Type 0} → Form A → Form ℕ → ℕ → ℕ → ℕ → List ℕ → ℕ → Walk
@@ -31,16 +31,16 @@ pub record Walks {A : Type 0} (F : Form A) (G : Form ℕ) (low high n : ℕ) (s 
 
 -- where the tables of conditions, actions and transitions begin, and whether the length bytes of the first two are in range
 abbrev pub conditionLengths : List ℕ → Bool
-conditionLengths s = every (between 1 longest) (table lengthForm (conditionsIn s) s (conditionsAt s))
+conditionLengths s = every (between 1 (mostBytes (wide s))) (table (lengthForm (wide s)) (conditionsIn s) s (conditionsAt s))
 
 abbrev pub actionLengths : List ℕ → Bool
-actionLengths s = every (between 0 longest) (table lengthForm (actionsIn s) s (actionsAt s))
+actionLengths s = every (between 0 (mostBytes false)) (table (lengthForm false) (actionsIn s) s (actionsAt s))
 
 pub record FindsTexts (s : List ℕ) (r : Texts) : Type 0 where
   pub all : r ≡ record { conditions = conditionsAt s; actions = actionsAt s; transitions = transitionsAt s; first = conditionLengths s; second = actionLengths s }
-  pub smallConditions : r .conditions ≤ 300000
-  pub smallActions : r .actions ≤ 300000
-  pub smallTransitions : r .transitions ≤ 140000
+  pub smallConditions : r .conditions ≤ 40000000
+  pub smallActions : r .actions ≤ 40000000
+  pub smallTransitions : r .transitions ≤ 34000000
 
 -- where the tables of a layout begin and end, and whether every length byte is in range
 abbrev pub tablesOf : {T R : Type 0} → Layout T R → List ℕ → Tables
@@ -56,14 +56,14 @@ tablesOf F s =
 
 pub record Finds {T R : Type 0} (F : Layout T R) (s : List ℕ) (r : Tables) : Type 0 where
   pub all : r ≡ tablesOf F s
-  pub smallConditions : r .conditions ≤ 300000
-  pub smallActions : r .actions ≤ 300000
-  pub smallTransitions : r .transitions ≤ 300000
-  pub smallLast : r .last ≤ 300000
+  pub smallConditions : r .conditions ≤ 40000000
+  pub smallActions : r .actions ≤ 40000000
+  pub smallTransitions : r .transitions ≤ 40000000
+  pub smallLast : r .last ≤ 40000000
 
 -- whether a condition names a variable that p picks, by its number: the places where the conditions begin, and how many there are
 abbrev pub namesAt : (Variable → Bool) → List ℕ → List ℕ → ℕ → Lent → ℕ → Bool
-namesAt p s index n L i = ltb i n && conditionWhich (λ c. conditionNames c p) L (textForm .value (drop (getD index i 0) s))
+namesAt p s index n L i = ltb i n && conditionWhich (λ c. conditionNames c p) L (textForm (wide s) .value (drop (getD index i 0) s))
 
 abbrev pub guardSuits : List ℕ → List ℕ → ℕ → Lent → Transition → Bool
 guardSuits s index n L t = not (namesAt isAtEntry s index n L (t .condition))

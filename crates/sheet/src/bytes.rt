@@ -3,7 +3,9 @@
 ghost use mathlib.Core.Path.{_≡_};
 ghost use mathlib.Core.Bool.{cond};
 ghost use Prim.Native.Nat.{_/_, _^_, _≤_, _<_};
+ghost use lib.ListN.{drop};
 ghost use Rattle.sheet.specs.Bytes.{byte, half, word};
+ghost use Rattle.sheet.specs.Decode.{wide, lead, said, textForm};
 
 pub(crate) fn byte(s: &[u8], at: usize) -> u8
     ensures { λ r. ⌜ r ≡ byte (now (s .entry)) at ⌝ }
@@ -41,6 +43,36 @@ pub(crate) fn half(s: &[u8], at: usize) -> usize
     ensures { λ r. ⌜ (r ≡ half (now (s .entry)) at) × (r < 65536) ⌝ }
 {
     number(s, at) * 256 + number(s, at + 1)
+}
+
+// Whether the lengths of conditions take two bytes.
+pub(crate) fn has_wide(s: &[u8]) -> bool
+    ensures { λ r. ⌜ r ≡ wide (now (s .entry)) ⌝ }
+{
+    number(s, 2) == 3
+}
+
+// How many bytes the length of a text takes.
+pub(crate) fn lead(w: bool) -> usize
+    ensures { λ r. ⌜ (r ≡ lead w) × (r ≤ 2) ⌝ }
+{
+    if w { 2 } else { 1 }
+}
+
+// The length of the text at a place.
+pub(crate) fn said(s: &[u8], at: usize, w: bool) -> usize
+    requires { ⌜ at ≤ 9000000000 ⌝ }
+    ensures { λ r. ⌜ (r ≡ said w (drop at (now (s .entry)))) × (r < 65536) ⌝ }
+{
+    if w { half(s, at) } else { number(s, at) }
+}
+
+// How many bytes the text at a place takes, with its length.
+pub(crate) fn text_size(s: &[u8], at: usize, w: bool) -> usize
+    requires { ⌜ at ≤ 9000000000 ⌝ }
+    ensures { λ r. ⌜ (r ≡ textForm w .size (drop at (now (s .entry)))) × (r ≤ 65537) ⌝ }
+{
+    lead(w) + said(s, at, w)
 }
 
 // Four bytes.

@@ -1,6 +1,7 @@
 // The header's tests: refusals 1 to 3.
 
 ghost use mathlib.Core.Path.{_≡_};
+ghost use Rattle.sheet.specs.Bytes.{byte};
 ghost use Rattle.sheet.specs.Reading.{isBad, whole, countsHold, startHolds, between};
 use crate::bytes::byte;
 use crate::bytes::half;
@@ -19,6 +20,13 @@ pub(crate) fn between(low: usize, high: usize, n: usize) -> bool
     ensures { λ r. ⌜ r ≡ between low high n ⌝ }
 {
     (low <= n) & (n <= high)
+}
+
+// 2 does not apply: the version is one of a range.
+pub(crate) fn version_is(s: &[u8], low: usize, high: usize) -> bool
+    ensures { λ r. ⌜ r ≡ between low high (byte (now (s .entry)) 2) ⌝ }
+{
+    between(low, high, number(s, 2))
 }
 
 // 3 does not apply, for the most conditions, actions and transitions.

@@ -4,20 +4,20 @@ ghost use mathlib.Core.Path.{_≡_};
 ghost use Prim.Native.Nat.{_≤_};
 ghost use Rattle.sheet.specs.Table.{starts, fit};
 ghost use Rattle.sheet.specs.Decode.{textForm};
-use crate::bytes::number;
+use crate::bytes::text_size;
 
-pub(crate) fn index(s: &[u8], at: usize, n: usize) -> [u32; 65]
-    requires { ⌜ (at ≤ 1000000) × (n ≤ 255) ⌝ }
-    ensures { λ r. ⌜ r ≡ fit 65 0 (starts textForm n (now (s .entry)) at) ⌝ }
+pub(crate) fn index(s: &[u8], at: usize, n: usize, w: bool) -> [u32; 161]
+    requires { ⌜ (at ≤ 100000000) × (n ≤ 255) ⌝ }
+    ensures { λ r. ⌜ r ≡ fit 161 0 (starts (textForm w) n (now (s .entry)) at) ⌝ }
 {
-    let mut out = [0u32; 65];
+    let mut out = [0u32; 161];
     let mut i = 0;
     let mut place = at;
     while i < n {
-        if i < 65 {
+        if i < 161 {
             out[i] = place as u32;
         }
-        place = place + (1 + number(s, place));
+        place = place + text_size(s, place, w);
         i += 1;
     }
     out

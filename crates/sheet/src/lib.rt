@@ -2,10 +2,11 @@
 // that every operation answers for all bytes and all places.
 
 ghost use mathlib.Core.Path.{_≡_};
+ghost use mathlib.Core.Bool.{false};
 ghost use lib.ListN.{drop};
 ghost use Rattle.sheet.specs.Bytes.{byte};
 ghost use Rattle.sheet.specs.Table.{fit, table};
-ghost use Rattle.sheet.specs.Decode.{wordForm, textForm, transitionOf, tripleForm, pairForm, templateForm};
+ghost use Rattle.sheet.specs.Decode.{wordForm, wide, textForm, transitionOf, tripleForm, pairForm, templateForm};
 ghost use Rattle.sheet.specs.Reading.{isBad, sheetLayout, networkLayout, reading};
 ghost use Rattle.sheet.specs.Log.{logReading, recordsIn};
 ghost use Rattle.sheet.specs.Answer.{answer, headerOf, placesOf, logAnswer, recordOf};
@@ -53,8 +54,8 @@ pub struct Header {
 // Where each condition and action begins, with its length byte, and where the transitions and the
 // last table begin.
 pub struct Places {
-    pub conditions: [u32; 65],
-    pub actions: [u32; 65],
+    pub conditions: [u32; 161],
+    pub actions: [u32; 161],
     pub transitions: u32,
     pub last: u32,
 }
@@ -143,8 +144,8 @@ pub fn sheet_places(s: &[u8]) -> Places
 {
     let t = walk::sheet_tables(s);
     Places {
-        conditions: index::index(s, t.conditions, bytes::number(s, 10)),
-        actions: index::index(s, t.actions, bytes::number(s, 11)),
+        conditions: index::index(s, t.conditions, bytes::number(s, 10), bytes::has_wide(s)),
+        actions: index::index(s, t.actions, bytes::number(s, 11), false),
         transitions: t.transitions as u32,
         last: t.last as u32,
     }
@@ -156,8 +157,8 @@ pub fn network_places(s: &[u8]) -> Places
 {
     let t = walk::network_tables(s);
     Places {
-        conditions: index::index(s, t.conditions, bytes::number(s, 10)),
-        actions: index::index(s, t.actions, bytes::number(s, 11)),
+        conditions: index::index(s, t.conditions, bytes::number(s, 10), bytes::has_wide(s)),
+        actions: index::index(s, t.actions, bytes::number(s, 11), false),
         transitions: t.transitions as u32,
         last: t.last as u32,
     }
@@ -177,11 +178,18 @@ pub fn word_at(s: &[u8], at: u32) -> u32
     records::word(s, bytes::place(at))
 }
 
-// The bytes of the condition or action that begins at a place.
-pub fn text_at(s: &[u8], at: u32) -> &[u8]
-    ensures { λ r. ⌜ now r ≡ textForm .value (drop at (now (s .entry))) ⌝ }
+// The bytes of the condition that begins at a place.
+pub fn condition_at(s: &[u8], at: u32) -> &[u8]
+    ensures { λ r. ⌜ now r ≡ textForm (wide (now (s .entry))) .value (drop at (now (s .entry))) ⌝ }
 {
-    records::text(s, bytes::place(at))
+    records::condition_text(s, bytes::place(at))
+}
+
+// The bytes of the action that begins at a place.
+pub fn action_at(s: &[u8], at: u32) -> &[u8]
+    ensures { λ r. ⌜ now r ≡ textForm false .value (drop at (now (s .entry))) ⌝ }
+{
+    records::text(s, bytes::place(at), false)
 }
 
 // The transition at a place, without its pairs.

@@ -45,7 +45,7 @@ fn template_ranged(t: Template, n: Counts) -> bool
 
 // A pair of a transition: the templates begin at `last`, so many of them.
 fn pair_ranged(s: &[u8], p: Pair, t: Transition, n: Counts, last: usize, templates: usize) -> bool
-    requires { ⌜ last ≤ 1000000 ⌝ }
+    requires { ⌜ last ≤ 100000000 ⌝ }
     ensures { λ r. ⌜ r ≡ pairRanged n (table templateForm templates (now (s .entry)) last) t p ⌝ }
 {
     let k = wide(p.template);
@@ -55,7 +55,7 @@ fn pair_ranged(s: &[u8], p: Pair, t: Transition, n: Counts, last: usize, templat
 
 // Whether n transitions have their numbers in range.
 pub(crate) fn transitions_ranged(s: &[u8], at: usize, n: usize, counts: Counts) -> bool
-    requires { ⌜ (at ≤ 1000000) × (n ≤ 255) ⌝ }
+    requires { ⌜ (at ≤ 100000000) × (n ≤ 255) ⌝ }
     ensures { λ r. ⌜ r ≡ every (transitionRanged counts) (table transitionForm n (now (s .entry)) at) ⌝ }
 {
     let mut ok = true;
@@ -71,7 +71,7 @@ pub(crate) fn transitions_ranged(s: &[u8], at: usize, n: usize, counts: Counts) 
 
 // The same of triples.
 pub(crate) fn triples_ranged(s: &[u8], at: usize, n: usize, counts: Counts) -> bool
-    requires { ⌜ (at ≤ 1000000) × (n ≤ 255) ⌝ }
+    requires { ⌜ (at ≤ 100000000) × (n ≤ 255) ⌝ }
     ensures { λ r. ⌜ r ≡ every (tripleRanged counts) (table tripleForm n (now (s .entry)) at) ⌝ }
 {
     let mut ok = true;
@@ -87,7 +87,7 @@ pub(crate) fn triples_ranged(s: &[u8], at: usize, n: usize, counts: Counts) -> b
 
 // The same of templates.
 pub(crate) fn templates_ranged(s: &[u8], at: usize, n: usize, counts: Counts) -> bool
-    requires { ⌜ (at ≤ 1000000) × (n ≤ 255) ⌝ }
+    requires { ⌜ (at ≤ 100000000) × (n ≤ 255) ⌝ }
     ensures { λ r. ⌜ r ≡ every (templateRanged counts) (table templateForm n (now (s .entry)) at) ⌝ }
 {
     let mut ok = true;
@@ -111,7 +111,7 @@ pub(crate) fn pairs_ranged(
     last: usize,
     templates: usize,
 ) -> bool
-    requires { ⌜ (at ≤ 2000000) × (n ≤ 255) × (last ≤ 1000000) ⌝ }
+    requires { ⌜ (at ≤ 200000000) × (n ≤ 255) × (last ≤ 100000000) ⌝ }
     ensures { λ r. ⌜ r ≡ every (pairRanged counts (table templateForm templates (now (s .entry)) last) t) (table pairForm n (now (s .entry)) at) ⌝ }
 {
     let mut ok = true;
@@ -126,7 +126,7 @@ pub(crate) fn pairs_ranged(
 }
 
 fn one_paired_ranged(s: &[u8], at: usize, counts: Counts, last: usize, templates: usize) -> bool
-    requires { ⌜ (at ≤ 1500000) × (last ≤ 1000000) ⌝ }
+    requires { ⌜ (at ≤ 150000000) × (last ≤ 100000000) ⌝ }
     ensures { λ r. ⌜ r ≡ pairedRanged counts (table templateForm templates (now (s .entry)) last) (pairedForm .value (drop at (now (s .entry)))) ⌝ }
 {
     let t = transition(s, at);
@@ -143,7 +143,7 @@ pub(crate) fn paired_ranged(
     last: usize,
     templates: usize,
 ) -> bool
-    requires { ⌜ (at ≤ 1000000) × (n ≤ 255) × (last ≤ 1000000) ⌝ }
+    requires { ⌜ (at ≤ 100000000) × (n ≤ 255) × (last ≤ 100000000) ⌝ }
     ensures { λ r. ⌜ r ≡ every (pairedRanged counts (table templateForm templates (now (s .entry)) last)) (table pairedForm n (now (s .entry)) at) ⌝ }
 {
     let mut ok = true;

@@ -4,12 +4,13 @@ ghost use mathlib.Core.Path.{_≡_};
 ghost use Prim.Native.Nat.{_≤_};
 ghost use Rattle.sheet.specs.Bytes.{byte};
 ghost use Rattle.sheet.specs.Decode.{commonOf, conditionsAt, actionsAt};
-ghost use Rattle.sheet.specs.Reading.{sheetLayout, networkLayout, lentIn, countsOf, formed, ranged, roled, transitionsOf, lastOf, reading};
+ghost use Rattle.sheet.specs.Reading.{sheetLayout, networkLayout, lentIn, countsOf, counted, formed, ranged, roled, transitionsOf, lastOf, reading};
 ghost use Rattle.sheet.specs.Answer.{answer};
 ghost use Rattle.sheet.specs.Walk.{Finds};
 use crate::Counts;
 use crate::Reading;
 use crate::bytes::byte;
+use crate::bytes::has_wide;
 use crate::bytes::number;
 use crate::formed;
 use crate::head;
@@ -43,11 +44,11 @@ fn counts(s: &[u8]) -> Counts
 }
 
 fn texts_formed(s: &[u8], conditions: usize, actions: usize) -> bool
-    requires { ⌜ (conditions ≡ conditionsAt (now s)) × (actions ≡ actionsAt (now s)) × (conditions ≤ 300000) × (actions ≤ 300000) ⌝ }
+    requires { ⌜ (conditions ≡ conditionsAt (now s)) × (actions ≡ actionsAt (now s)) × (conditions ≤ 40000000) × (actions ≤ 40000000) ⌝ }
     ensures { λ r. ⌜ r ≡ formed (commonOf (now (s .entry))) ⌝ }
 {
     let l = lent(s);
-    formed::conditions_formed(s, conditions, number(s, 10), l)
+    formed::conditions_formed(s, conditions, number(s, 10), l, has_wide(s))
         & formed::actions_formed(s, actions, number(s, 11), l)
 }
 
@@ -71,24 +72,24 @@ fn network_ranged(s: &[u8], t: Tables) -> bool
 }
 
 fn sheet_roled(s: &[u8], t: Tables) -> bool
-    requires { ⌜ (Finds sheetLayout (now s) t) × (byte (now s) 10 ≤ 65) ⌝ }
+    requires { ⌜ (Finds sheetLayout (now s) t) × (byte (now s) 10 ≤ 161) ⌝ }
     ensures { λ r. ⌜ r ≡ roled sheetLayout (commonOf (now (s .entry))) (transitionsOf sheetLayout (now (s .entry))) (lastOf sheetLayout (now (s .entry))) ⌝ }
 {
     let l = lent(s);
     let n = number(s, 10);
-    let i = index(s, t.conditions, n);
+    let i = index(s, t.conditions, n, has_wide(s));
     formed::actions_free(s, t.actions, number(s, 11), l)
         & (roles::guards_suit(s, t.transitions, number(s, 12), &i, n, l)
             & roles::triples_suit(s, t.last, number(s, 13), &i, n, l))
 }
 
 fn network_roled(s: &[u8], t: Tables) -> bool
-    requires { ⌜ (Finds networkLayout (now s) t) × (byte (now s) 10 ≤ 65) ⌝ }
+    requires { ⌜ (Finds networkLayout (now s) t) × (byte (now s) 10 ≤ 161) ⌝ }
     ensures { λ r. ⌜ r ≡ roled networkLayout (commonOf (now (s .entry))) (transitionsOf networkLayout (now (s .entry))) (lastOf networkLayout (now (s .entry))) ⌝ }
 {
     let l = lent(s);
     let n = number(s, 10);
-    let i = index(s, t.conditions, n);
+    let i = index(s, t.conditions, n, has_wide(s));
     formed::actions_free(s, t.actions, number(s, 11), l)
         & (roles::paired_suit(s, t.transitions, number(s, 12), &i, n, l)
             & roles::templates_suit(s, t.last, number(s, 13), &i, n, l))
@@ -100,7 +101,7 @@ pub(crate) fn sheet_refusal(s: &[u8]) -> u8
     if head::whole(s) {} else {
         return 1;
     }
-    if number(s, 2) == 1 {} else {
+    if head::version_is(s, 1, 1) {} else {
         return 2;
     }
     if head::counts_hold(s, 64, 32, 64) {} else {
@@ -125,16 +126,29 @@ pub(crate) fn sheet_refusal(s: &[u8]) -> u8
     0
 }
 
+// The most conditions of a network.
+fn most_conditions(w: bool) -> usize
+    ensures { λ r. ⌜ (r ≡ networkLayout .conditions w) × (r ≤ 161) ⌝ }
+{
+    if w { 161 } else { 65 }
+}
+
+fn network_counts(s: &[u8]) -> bool
+    ensures { λ r. ⌜ r ≡ counted networkLayout (now (s .entry)) ⌝ }
+{
+    head::counts_hold(s, most_conditions(has_wide(s)), 33, 96)
+}
+
 pub(crate) fn network_refusal(s: &[u8]) -> u8
     ensures { λ r. ⌜ r ≡ reading networkLayout (now (s .entry)) ⌝ }
 {
     if head::whole(s) {} else {
         return 1;
     }
-    if number(s, 2) == 2 {} else {
+    if head::version_is(s, 2, 3) {} else {
         return 2;
     }
-    if head::counts_hold(s, 65, 33, 96) {} else {
+    if network_counts(s) {} else {
         return 3;
     }
     let t = walk::network_tables(s);

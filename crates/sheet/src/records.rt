@@ -3,14 +3,16 @@
 ghost use mathlib.Core.Path.{_≡_};
 ghost use Prim.Native.Nat.{_≤_};
 ghost use lib.ListN.{take, drop};
-ghost use Rattle.sheet.specs.Decode.{wordForm, textForm, transitionOf, tripleForm, pairForm, templateForm};
+ghost use Rattle.sheet.specs.Decode.{wordForm, wide, textForm, transitionOf, tripleForm, pairForm, templateForm};
 use crate::Pair;
 use crate::Template;
 use crate::Transition;
 use crate::Triple;
 use crate::bytes;
 use crate::bytes::byte;
-use crate::bytes::number;
+use crate::bytes::has_wide;
+use crate::bytes::lead;
+use crate::bytes::said;
 
 pub(crate) fn transition(s: &[u8], at: usize) -> Transition
     requires { ⌜ at ≤ 8000000000 ⌝ }
@@ -60,7 +62,7 @@ pub(crate) fn template(s: &[u8], at: usize) -> Template
 
 // At most n bytes from a place on.
 pub(crate) fn part(s: &[u8], at: usize, n: usize) -> &[u8]
-    requires { ⌜ (at ≤ 8000000001) × (n ≤ 8000000000) ⌝ }
+    requires { ⌜ (at ≤ 8000000002) × (n ≤ 8000000000) ⌝ }
     ensures { λ r. ⌜ now r ≡ take n (drop at (now (s .entry))) ⌝ }
 {
     if s.len() < at {
@@ -72,13 +74,21 @@ pub(crate) fn part(s: &[u8], at: usize, n: usize) -> &[u8]
     &s[at..at + n]
 }
 
-// The bytes of the condition or action whose length byte is at a place.
-pub(crate) fn text(s: &[u8], at: usize) -> &[u8]
+// The bytes of the condition or action whose length is at a place.
+pub(crate) fn text(s: &[u8], at: usize, w: bool) -> &[u8]
     requires { ⌜ at ≤ 8000000000 ⌝ }
-    ensures { λ r. ⌜ now r ≡ textForm .value (drop at (now (s .entry))) ⌝ }
+    ensures { λ r. ⌜ now r ≡ textForm w .value (drop at (now (s .entry))) ⌝ }
 {
-    let n = number(s, at);
-    part(s, at + 1, n)
+    let n = said(s, at, w);
+    part(s, at + lead(w), n)
+}
+
+// The bytes of the condition whose length is at a place.
+pub(crate) fn condition_text(s: &[u8], at: usize) -> &[u8]
+    requires { ⌜ at ≤ 8000000000 ⌝ }
+    ensures { λ r. ⌜ now r ≡ textForm (wide (now (s .entry))) .value (drop at (now (s .entry))) ⌝ }
+{
+    text(s, at, has_wide(s))
 }
 
 pub(crate) fn word(s: &[u8], at: usize) -> u32

@@ -14,68 +14,68 @@ use crate::Triple;
 use crate::bytes::number;
 use crate::bytes::place;
 use crate::bytes::wide;
+use crate::records::condition_text;
 use crate::records::pair;
 use crate::records::template;
-use crate::records::text;
 use crate::records::transition;
 use crate::records::triple;
 use condition::Lent;
 
-fn names_entry(s: &[u8], index: &[u32; 65], conditions: usize, lent: Lent, i: u8) -> bool
-    requires { ⌜ conditions ≤ 65 ⌝ }
+fn names_entry(s: &[u8], index: &[u32; 161], conditions: usize, lent: Lent, i: u8) -> bool
+    requires { ⌜ conditions ≤ 161 ⌝ }
     ensures { λ r. ⌜ r ≡ namesAt isAtEntry (now (s .entry)) (now (index .entry)) conditions lent i ⌝ }
 {
     let k = wide(i);
     if k < conditions {
-        condition::condition_has_entry(text(s, place(index[k])), lent)
+        condition::condition_has_entry(condition_text(s, place(index[k])), lent)
     } else {
         false
     }
 }
 
-fn names_monitor(s: &[u8], index: &[u32; 65], conditions: usize, lent: Lent, i: u8) -> bool
-    requires { ⌜ conditions ≤ 65 ⌝ }
+fn names_monitor(s: &[u8], index: &[u32; 161], conditions: usize, lent: Lent, i: u8) -> bool
+    requires { ⌜ conditions ≤ 161 ⌝ }
     ensures { λ r. ⌜ r ≡ namesAt isMonitor (now (s .entry)) (now (index .entry)) conditions lent i ⌝ }
 {
     let k = wide(i);
     if k < conditions {
-        condition::condition_has_monitor(text(s, place(index[k])), lent)
+        condition::condition_has_monitor(condition_text(s, place(index[k])), lent)
     } else {
         false
     }
 }
 
-fn precondition_suits(s: &[u8], index: &[u32; 65], conditions: usize, lent: Lent, i: u8) -> bool
-    requires { ⌜ conditions ≤ 65 ⌝ }
+fn precondition_suits(s: &[u8], index: &[u32; 161], conditions: usize, lent: Lent, i: u8) -> bool
+    requires { ⌜ conditions ≤ 161 ⌝ }
     ensures { λ r. ⌜ r ≡ preconditionSuits (now (s .entry)) (now (index .entry)) conditions lent i ⌝ }
 {
     !names_entry(s, index, conditions, lent, i) & !names_monitor(s, index, conditions, lent, i)
 }
 
-fn guard_suits(s: &[u8], index: &[u32; 65], conditions: usize, lent: Lent, t: Transition) -> bool
-    requires { ⌜ conditions ≤ 65 ⌝ }
+fn guard_suits(s: &[u8], index: &[u32; 161], conditions: usize, lent: Lent, t: Transition) -> bool
+    requires { ⌜ conditions ≤ 161 ⌝ }
     ensures { λ r. ⌜ r ≡ guardSuits (now (s .entry)) (now (index .entry)) conditions lent t ⌝ }
 {
     !names_entry(s, index, conditions, lent, t.condition)
 }
 
-fn triple_suits(s: &[u8], index: &[u32; 65], conditions: usize, lent: Lent, t: Triple) -> bool
-    requires { ⌜ conditions ≤ 65 ⌝ }
+fn triple_suits(s: &[u8], index: &[u32; 161], conditions: usize, lent: Lent, t: Triple) -> bool
+    requires { ⌜ conditions ≤ 161 ⌝ }
     ensures { λ r. ⌜ r ≡ tripleSuits (now (s .entry)) (now (index .entry)) conditions lent t ⌝ }
 {
     precondition_suits(s, index, conditions, lent, t.precondition)
         & !names_monitor(s, index, conditions, lent, t.postcondition)
 }
 
-fn pair_suits(s: &[u8], index: &[u32; 65], conditions: usize, lent: Lent, p: Pair) -> bool
-    requires { ⌜ conditions ≤ 65 ⌝ }
+fn pair_suits(s: &[u8], index: &[u32; 161], conditions: usize, lent: Lent, p: Pair) -> bool
+    requires { ⌜ conditions ≤ 161 ⌝ }
     ensures { λ r. ⌜ r ≡ pairSuits (now (s .entry)) (now (index .entry)) conditions lent p ⌝ }
 {
     precondition_suits(s, index, conditions, lent, p.condition)
 }
 
-fn template_suits(s: &[u8], index: &[u32; 65], conditions: usize, lent: Lent, t: Template) -> bool
-    requires { ⌜ conditions ≤ 65 ⌝ }
+fn template_suits(s: &[u8], index: &[u32; 161], conditions: usize, lent: Lent, t: Template) -> bool
+    requires { ⌜ conditions ≤ 161 ⌝ }
     ensures { λ r. ⌜ r ≡ templateSuits (now (s .entry)) (now (index .entry)) conditions lent t ⌝ }
 {
     !names_monitor(s, index, conditions, lent, t.postcondition)
@@ -86,11 +86,11 @@ pub(crate) fn guards_suit(
     s: &[u8],
     at: usize,
     n: usize,
-    index: &[u32; 65],
+    index: &[u32; 161],
     conditions: usize,
     lent: Lent,
 ) -> bool
-    requires { ⌜ (at ≤ 1000000) × (n ≤ 255) × (conditions ≤ 65) ⌝ }
+    requires { ⌜ (at ≤ 100000000) × (n ≤ 255) × (conditions ≤ 161) ⌝ }
     ensures { λ r. ⌜ r ≡ every (guardSuits (now (s .entry)) (now (index .entry)) conditions lent) (table transitionForm n (now (s .entry)) at) ⌝ }
 {
     let mut ok = true;
@@ -109,11 +109,11 @@ pub(crate) fn triples_suit(
     s: &[u8],
     at: usize,
     n: usize,
-    index: &[u32; 65],
+    index: &[u32; 161],
     conditions: usize,
     lent: Lent,
 ) -> bool
-    requires { ⌜ (at ≤ 1000000) × (n ≤ 255) × (conditions ≤ 65) ⌝ }
+    requires { ⌜ (at ≤ 100000000) × (n ≤ 255) × (conditions ≤ 161) ⌝ }
     ensures { λ r. ⌜ r ≡ every (tripleSuits (now (s .entry)) (now (index .entry)) conditions lent) (table tripleForm n (now (s .entry)) at) ⌝ }
 {
     let mut ok = true;
@@ -132,11 +132,11 @@ pub(crate) fn templates_suit(
     s: &[u8],
     at: usize,
     n: usize,
-    index: &[u32; 65],
+    index: &[u32; 161],
     conditions: usize,
     lent: Lent,
 ) -> bool
-    requires { ⌜ (at ≤ 1000000) × (n ≤ 255) × (conditions ≤ 65) ⌝ }
+    requires { ⌜ (at ≤ 100000000) × (n ≤ 255) × (conditions ≤ 161) ⌝ }
     ensures { λ r. ⌜ r ≡ every (templateSuits (now (s .entry)) (now (index .entry)) conditions lent) (table templateForm n (now (s .entry)) at) ⌝ }
 {
     let mut ok = true;
@@ -155,11 +155,11 @@ pub(crate) fn pairs_suit(
     s: &[u8],
     at: usize,
     n: usize,
-    index: &[u32; 65],
+    index: &[u32; 161],
     conditions: usize,
     lent: Lent,
 ) -> bool
-    requires { ⌜ (at ≤ 2000000) × (n ≤ 255) × (conditions ≤ 65) ⌝ }
+    requires { ⌜ (at ≤ 200000000) × (n ≤ 255) × (conditions ≤ 161) ⌝ }
     ensures { λ r. ⌜ r ≡ every (pairSuits (now (s .entry)) (now (index .entry)) conditions lent) (table pairForm n (now (s .entry)) at) ⌝ }
 {
     let mut ok = true;
@@ -173,8 +173,8 @@ pub(crate) fn pairs_suit(
     ok
 }
 
-fn one_paired_suits(s: &[u8], at: usize, index: &[u32; 65], conditions: usize, lent: Lent) -> bool
-    requires { ⌜ (at ≤ 1500000) × (conditions ≤ 65) ⌝ }
+fn one_paired_suits(s: &[u8], at: usize, index: &[u32; 161], conditions: usize, lent: Lent) -> bool
+    requires { ⌜ (at ≤ 150000000) × (conditions ≤ 161) ⌝ }
     ensures { λ r. ⌜ r ≡ pairedSuits (now (s .entry)) (now (index .entry)) conditions lent (pairedForm .value (drop at (now (s .entry)))) ⌝ }
 {
     let t = transition(s, at);
@@ -188,11 +188,11 @@ pub(crate) fn paired_suit(
     s: &[u8],
     at: usize,
     n: usize,
-    index: &[u32; 65],
+    index: &[u32; 161],
     conditions: usize,
     lent: Lent,
 ) -> bool
-    requires { ⌜ (at ≤ 1000000) × (n ≤ 255) × (conditions ≤ 65) ⌝ }
+    requires { ⌜ (at ≤ 100000000) × (n ≤ 255) × (conditions ≤ 161) ⌝ }
     ensures { λ r. ⌜ r ≡ every (pairedSuits (now (s .entry)) (now (index .entry)) conditions lent) (table pairedForm n (now (s .entry)) at) ⌝ }
 {
     let mut ok = true;

@@ -12,7 +12,7 @@ use crate::records::triple;
 
 // How many of n triples have the state and unit of one.
 fn together(s: &[u8], at: usize, n: usize, t: Triple) -> usize
-    requires { ⌜ (at ≤ 1000000) × (n ≤ 255) ⌝ }
+    requires { ⌜ (at ≤ 100000000) × (n ≤ 255) ⌝ }
     ensures { λ r. ⌜ r ≡ together t (table tripleForm n (now (s .entry)) at) ⌝ }
 {
     let mut count = 0;
@@ -29,7 +29,7 @@ fn together(s: &[u8], at: usize, n: usize, t: Triple) -> usize
 
 // Whether none of n triples stands with more than three others.
 pub(crate) fn spread(s: &[u8], at: usize, n: usize) -> bool
-    requires { ⌜ (at ≤ 1000000) × (n ≤ 255) ⌝ }
+    requires { ⌜ (at ≤ 100000000) × (n ≤ 255) ⌝ }
     ensures { λ r. ⌜ r ≡ every (λ t. leb (together t (table tripleForm n (now (s .entry)) at)) 4) (table tripleForm n (now (s .entry)) at) ⌝ }
 {
     let mut ok = true;

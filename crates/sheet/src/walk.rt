@@ -1,11 +1,14 @@
 // Where the tables stand, and whether their length bytes are in range: refusal 4.
 
 ghost use Prim.Native.Nat.{_≤_};
-ghost use Rattle.condition.specs.Answer.{longest};
+ghost use mathlib.Core.Path.{_≡_};
 ghost use Rattle.sheet.specs.Decode.{textForm, lengthForm, pairedForm, pairCountForm};
-ghost use Rattle.sheet.specs.Reading.{sheetLayout, networkLayout};
+ghost use Rattle.sheet.specs.Reading.{mostBytes, sheetLayout, networkLayout};
 ghost use Rattle.sheet.specs.Walk.{Walks, FindsTexts, Finds};
+use crate::bytes::has_wide;
+use crate::bytes::lead;
 use crate::bytes::number;
+use crate::bytes::said;
 use crate::head::between;
 
 // Whether the length bytes of a table are in range, and where it ends.
@@ -23,18 +26,25 @@ pub(crate) struct Tables {
     pub ok: bool,
 }
 
+// The most bytes of a text.
+fn most_bytes(w: bool) -> usize
+    ensures { λ r. ⌜ r ≡ mostBytes w ⌝ }
+{
+    if w { 1024 } else { 64 }
+}
+
 // A table of n conditions or actions, of at least so many bytes.
-fn walk_texts(s: &[u8], at: usize, n: usize, least: usize) -> Walk
-    requires { ⌜ (at ≤ 1000000) × (n ≤ 255) ⌝ }
-    ensures { λ r. ⌜ Walks textForm lengthForm least longest n (now (s .entry)) at 256 r ⌝ }
+fn walk_texts(s: &[u8], at: usize, n: usize, least: usize, w: bool) -> Walk
+    requires { ⌜ (at ≤ 100000000) × (n ≤ 255) ⌝ }
+    ensures { λ r. ⌜ Walks (textForm w) (lengthForm w) least (mostBytes w) n (now (s .entry)) at 65537 r ⌝ }
 {
     let mut ok = true;
     let mut place = at;
     let mut left = n;
     while 0 < left {
-        let length = number(s, place);
-        ok = ok & between(least, 64, length);
-        place = place + (1 + length);
+        let length = said(s, place, w);
+        ok = ok & between(least, most_bytes(w), length);
+        place = place + (lead(w) + length);
         left -= 1;
     }
     Walk { ok, end: place }
@@ -42,7 +52,7 @@ fn walk_texts(s: &[u8], at: usize, n: usize, least: usize) -> Walk
 
 // A table of n transitions with pairs.
 fn walk_paired(s: &[u8], at: usize, n: usize) -> Walk
-    requires { ⌜ (at ≤ 1000000) × (n ≤ 255) ⌝ }
+    requires { ⌜ (at ≤ 100000000) × (n ≤ 255) ⌝ }
     ensures { λ r. ⌜ Walks pairedForm pairCountForm 0 4 n (now (s .entry)) at 517 r ⌝ }
 {
     let mut ok = true;
@@ -70,8 +80,8 @@ fn find_texts(s: &[u8]) -> Texts
     ensures { λ r. ⌜ FindsTexts (now (s .entry)) r ⌝ }
 {
     let conditions = 14 + number(s, 6) * 4;
-    let first = walk_texts(s, conditions, number(s, 10), 1);
-    let second = walk_texts(s, first.end, number(s, 11), 0);
+    let first = walk_texts(s, conditions, number(s, 10), 1, has_wide(s));
+    let second = walk_texts(s, first.end, number(s, 11), 0, false);
     Texts {
         conditions,
         actions: first.end,

@@ -10,13 +10,25 @@ use sheet::Reading;
 const OUT: i32 = 1;
 
 fn main() {
-    let mut input = io::large_buffer();
-    let n = io::read_full(0, &mut input);
-    run(&input[..n]);
+    let mut left: u32 = 64;
+    while 0 < left {
+        if page() {} else {
+            return;
+        }
+        left -= 1;
+    }
 }
 
-// Runs the frames one after the other.
-fn run(s: &[u8])
+// Reads a page of frames and carries it out; answers whether there was one.
+fn page() -> bool {
+    let mut input = io::large_buffer();
+    let n = io::read_full(0, &mut input);
+    script(&input[..n]);
+    0 < n
+}
+
+// Carries out the frames of a page, to the end or to a byte that begins none.
+fn script(s: &[u8])
     requires { ⌜ length (now s) ≤ 65536 ⌝ }
 {
     let mut at = 0;
@@ -25,11 +37,14 @@ fn run(s: &[u8])
     }
 }
 
-// Runs the frame at a place: the place behind it.
+// Runs the frame at a place: the place behind it. One that is cut short or of another kind ends the page.
 fn frame(s: &[u8], at: usize) -> usize
     requires { ⌜ (length (now s) ≤ 65536) × (at < length (now s)) ⌝ }
     ensures { λ r. ⌜ at < r ⌝ }
 {
+    if 2 < byte(s, at) {
+        return s.len();
+    }
     let size = byte(s, at + 2) * 256 + byte(s, at + 3);
     let start = at + 4;
     let end = start + size;

@@ -13,15 +13,16 @@ use Rattle.condition.specs.declared.Lent.{Lent}
 use Rattle.condition.specs.Tree.{Condition, Assignment, conditionNames, actionNames, isMonitor, isAtEntry}
 use Rattle.condition.specs.Parse.{parseCondition, parseAction}
 use Rattle.condition.specs.Meaning.{Environment, environment, lent, holds, performed}
-use Rattle.condition.specs.Answer.{sized, whether, conditionWhich, actionWhich, conditionOutcome, actionOutcome, runOutcome, actionPaper}
+use Rattle.condition.specs.Answer.{sized, actionSized, whether, conditionWhich, actionWhich, conditionOutcome, actionOutcome, runOutcome, actionPaper}
 use Rattle.condition.proofs.Naming.{unkept, unmonitored, entry-narrow, monitor-narrow, action-entry-narrow, no-monitor-means}
 use Rattle.sheet.specs.declared.Transition.{Transition}
-use Rattle.sheet.specs.Table.{Form, table, records, starts, fit}
+use Rattle.sheet.specs.Table.{Form, table, records}
 use Rattle.sheet.specs.Parts.{Paired}
-use Rattle.sheet.specs.Decode.{textForm, transitionOf, transitionForm, pairedForm, conditionsIn, actionsIn, transitionsIn, conditionsAt, actionsAt, transitionsAt, commonOf}
+use Rattle.sheet.specs.Decode.{wide, transitionOf, transitionForm, pairedForm, transitionsIn, transitionsAt, commonOf}
 use Rattle.sheet.specs.Reading.{Layout, lentIn, conditionIn, namesEntry, namesMonitor, transitionsOf, lastOf, sheetLayout, networkLayout}
 use Rattle.sheet.specs.Log.{Event}
-use Rattle.sheet.proofs.Tables.{and-assoc, length-records, indexed}
+use Rattle.sheet.proofs.Tables.{and-assoc}
+use Rattle.sheet.proofs.Placed.{network-few, conditionPlaces, actionPlaces, condition-there, action-there}
 use Rattle.sheet.proofs.Accepted.{Accepted, GoodTransition, bounds, condition-formed, action-formed, action-entry, sheet-transition, network-transition}
 use Rattle.step.specs.declared.Key.{Key}
 use Rattle.step.specs.declared.Found.{Found}
@@ -31,20 +32,13 @@ use Rattle.step.specs.Meets.{meets, acted, performedBy}
 use Rattle.step.specs.Moves.{Configuration, seen, enabled}
 use Rattle.step.specs.Walk.{trueOf, meetsAt, actedAt, enabledAt, baseForm, firstPlace}
 
--- the index of the conditions, and that of the actions
-abbrev pub conditionPlaces : List ℕ → List ℕ
-conditionPlaces s = fit 65 0 (starts textForm (conditionsIn s) s (conditionsAt s))
-
-abbrev pub actionPlaces : List ℕ → List ℕ
-actionPlaces s = fit 65 0 (starts textForm (actionsIn s) s (actionsAt s))
-
 -- A text of the right size that parses to a tree.
 record Reads (L : Lent) (t : List ℕ) (c : Condition) : Type 0 where
-  fits : sized 1 t ≡ true
+  fits : sized t ≡ true
   tree : parseCondition L t ≡ some c
 
 record Runs (L : Lent) (t : List ℕ) (r : List Assignment) : Type 0 where
-  fits : sized 0 t ≡ true
+  fits : actionSized t ≡ true
   tree : parseAction L t ≡ some r
 
 parses : {A : Type 0} (b : Bool) (x : Option A) → (b && whether x (λ _. true)) ≡ true → (a : A) × (b ≡ true) × (x ≡ some a)
@@ -55,11 +49,11 @@ parses false x e = absurd (false≢true e)
 module _ (L : Lent) (t : List ℕ) where
   reads : conditionWhich (λ _. true) L t ≡ true → (c : Condition) × Reads L t c
   unfolding conditionWhich
-  reads e = let (c, z, h) = parses (sized 1 t) (parseCondition L t) e in (c, record { fits = z; tree = h })
+  reads e = let (c, z, h) = parses (sized t) (parseCondition L t) e in (c, record { fits = z; tree = h })
 
   runs : actionWhich (λ _. true) L t ≡ true → (r : List Assignment) × Runs L t r
   unfolding actionWhich
-  runs e = let (r, z, h) = parses (sized 0 t) (parseAction L t) e in (r, record { fits = z; tree = h })
+  runs e = let (r, z, h) = parses (actionSized t) (parseAction L t) e in (r, record { fits = z; tree = h })
 
 -- What it names, what it parses to where less is lent, what evaluation gives, and what it means.
 module _ {L : Lent} {t : List ℕ} {c : Condition} (g : Reads L t c) where
@@ -95,28 +89,12 @@ module _ {L : Lent} {t : List ℕ} {r : List Assignment} (g : Runs L t r) where
   run-meant : (E : Environment) → performedBy (parseAction L t) E ≡ performed r E
   run-meant E = rw (g .tree)
 
--- The texts of accepted bytes by their numbers.
-module _ {T R : Type 0} {F : Layout T R} {s : List ℕ} (a : Accepted F s) (i : ℕ) where
-  pub text-there : F .conditions ≤ 65 → i < length (commonOf s .conditions) → textForm .value (drop (getD (conditionPlaces s) i 0) s) ≡ conditionIn (commonOf s) i
-  unfolding commonOf
-  text-there few h =
-      let long = length-records textForm (conditionsIn s) (drop (conditionsAt s) s) in
-      let most = bounds a .conditions in
-      indexed textForm 65 (conditionsIn s) s (conditionsAt s) i (0 ∷ []) (omega arith) (omega arith)
-
-  pub action-there : F .actions ≤ 65 → i < length (commonOf s .actions) → textForm .value (drop (getD (actionPlaces s) i 0) s) ≡ getD (commonOf s .actions) i []
-  unfolding commonOf
-  action-there few h =
-      let long = length-records textForm (actionsIn s) (drop (actionsAt s) s) in
-      let most = bounds a .actions in
-      indexed textForm 65 (actionsIn s) s (actionsAt s) i [] (omega arith) (omega arith)
-
 -- A condition of accepted bytes: what the operation answers is what Meets says, for a transition's condition, a precondition and a postcondition.
-module _ {T R : Type 0} {F : Layout T R} {s : List ℕ} (a : Accepted F s) (few : F .conditions ≤ 65) (i : ℕ) (h : i < length (commonOf s .conditions)) where
+module _ {T R : Type 0} {F : Layout T R} {s : List ℕ} (a : Accepted F s) (few : F .conditions (wide s) ≤ 161) (i : ℕ) (h : i < length (commonOf s .conditions)) where
   by-number : (E : Environment) (b : Bool) → trueOf (conditionOutcome (conditionIn (commonOf s) i) E) ≡ b → meetsAt s (conditionPlaces s) i E ≡ b
   by-number E b e =
       let most = bounds a .conditions in
-      rw (lt-ltb i 65 (omega arith), text-there a i few h) e
+      rw (lt-ltb i 161 (omega arith), condition-there a i few h) e
 
   there : (c : Condition) × Reads (lentIn (commonOf s)) (conditionIn (commonOf s) i) c
   there = reads (lentIn (commonOf s)) (conditionIn (commonOf s) i) (condition-formed (commonOf s) (a .formed) i)
@@ -153,7 +131,7 @@ module _ {T R : Type 0} {F : Layout T R} {s : List ℕ} (a : Accepted F s) (few 
         by-number E _ (evaluated (without-monitor g q) E l ∙ no-monitor-means values [] m kept c q ∙ sym (meant g (environment values m kept)))
 
 -- An action of accepted bytes, with room behind the monitor variables.
-pub action-acts : {T R : Type 0} {F : Layout T R} {s : List ℕ} (a : Accepted F s) → F .actions ≤ 65 → (i : ℕ) → i < length (commonOf s .actions)
+pub action-acts : {T R : Type 0} {F : Layout T R} {s : List ℕ} (a : Accepted F s) → F .actions ≤ 161 → (i : ℕ) → i < length (commonOf s .actions)
     → (values variables : List ℕ) → length values ≡ commonOf s .programs → commonOf s .monitors ≤ length variables
     → actedAt s (actionPlaces s) i values (commonOf s .monitors) variables ≡ acted (commonOf s) i (environment values (take (commonOf s .monitors) variables) []) ++ drop (commonOf s .monitors) variables
 unfolding acted
@@ -165,7 +143,7 @@ action-acts {F} {s} a few i h values variables p m =
     let E = environment values (take (C .monitors) variables) [] in
     let l : lent E ≡ unkept (lentIn C) = rw (p, length-take-le (C .monitors) variables m) in
     let u = run-without-entry g (run-named g (λ d. actionNames d isAtEntry) (action-entry F C (transitionsOf F s) (lastOf F s) (a .roled) i)) in
-    rw (lt-ltb i 65 (omega arith), action-there a i few h, run-meant g E) (run-outcome u E (C .monitors) variables l)
+    rw (lt-ltb i 161 (omega arith), action-there a i few h, run-meant g E) (run-outcome u E (C .monitors) variables l)
 
 -- What is read at the place that was found: a transition, and one with its pairs.
 abbrev readAt : {A : Type 0} → (List ℕ → A) → List ℕ → Found → Option A
@@ -198,7 +176,7 @@ first-same q r d (x ∷ l) h = rw (h 0 (omega arith), first-same q r d l (λ i k
 abbrev pub keyOf : Configuration → Event → Key
 keyOf k e = record { from = k .main; kind = e .kind; unit = e .unit }
 
-pub enabled-same : {T R : Type 0} {F : Layout T R} {s : List ℕ} (a : Accepted F s) → F .conditions ≤ 65 → (k : Configuration) (e : Event)
+pub enabled-same : {T R : Type 0} {F : Layout T R} {s : List ℕ} (a : Accepted F s) → F .conditions (wide s) ≤ 161 → (k : Configuration) (e : Event)
     → length (e .values) ≡ commonOf s .programs → length (k .variables) ≡ commonOf s .monitors → {t : Transition} → GoodTransition (commonOf s) t
     → enabledAt s (conditionPlaces s) (keyOf k e) (seen e k) t ≡ enabled (commonOf s) k e t
 unfolding enabled
@@ -224,7 +202,7 @@ pub first-paired : {s : List ℕ} (a : Accepted networkLayout s) (k : Configurat
     → pairedAt s (firstPlace (enabledAt s (conditionPlaces s) (keyOf k e) (seen e k)) (baseForm true) (transitionsIn s) s (transitionsAt s)) ≡ first (λ (t : Paired). enabled (commonOf s) k e (t .base)) (transitionsOf networkLayout s)
 first-paired {s} a k e p m =
     first-found _ (baseForm true) pairedForm (λ t. t .base) (λ t. refl) (λ t. refl) (transitionsIn s) s (transitionsAt s)
-    ∙ first-same _ _ noPaired (transitionsOf networkLayout s) (λ i h. enabled-same a (omega arith) k e p m (network-transition a i noPaired h))
+    ∙ first-same _ _ noPaired (transitionsOf networkLayout s) (λ i h. enabled-same a (network-few (wide s)) k e p m (network-transition a i noPaired h))
 
 abbrev baseOf : Option Paired → Option Transition
 baseOf none = none

@@ -29,7 +29,8 @@ use Rattle.step.specs.Walk.{movedAt, movedTo}
 use Rattle.step.proofs.Lists.{Among, first-passes}
 use Rattle.step.proofs.Keeping.{among-at}
 use Rattle.step.proofs.Rooms.{take-fitted, behind-fit}
-use Rattle.step.proofs.Bridge.{actionPlaces, foundAt, noTransition, noPaired, action-acts}
+use Rattle.sheet.proofs.Placed.{actionPlaces}
+use Rattle.step.proofs.Bridge.{foundAt, noTransition, noPaired, action-acts}
 
 -- Every transition of accepted bytes is good: of a sheet, and of a network.
 pub sheet-good : {s : List ℕ} → Accepted sheetLayout s → (t : Transition) → Among t (transitionsOf sheetLayout s) → GoodTransition (commonOf s) t
@@ -79,7 +80,7 @@ abbrev padded : Common → List ℕ → Configuration → Event → Option Trans
 padded C variables k e o = record { main = after C k e o .main; variables = after C k e o .variables ++ drop (C .monitors) variables }
 
 -- The action and the state of the transition that was found are those of the definition.
-module _ {T R : Type 0} {F : Layout T R} {s : List ℕ} (a : Accepted F s) (few : F .actions ≤ 65) (ts : List Transition) (good : (t : Transition) → Among t ts → t .action < length (commonOf s .actions))
+module _ {T R : Type 0} {F : Layout T R} {s : List ℕ} (a : Accepted F s) (few : F .actions ≤ 161) (ts : List Transition) (good : (t : Transition) → Among t ts → t .action < length (commonOf s .actions))
     (main : ℕ) (variables : List ℕ) (e : Event) (p : length (e .values) ≡ commonOf s .programs) (m : commonOf s .monitors ≤ length variables) where
   pub taken-moves : (f : Found) → foundAt s f ≡ first (enabled (commonOf s) (held (commonOf s) main variables) e) ts
       → movedAt s (actionPlaces s) f (e .values) main variables (commonOf s .monitors) ≡ movedTo (commonOf s) ts main variables e

@@ -16,7 +16,7 @@ use Rattle.condition.specs.declared.Performed.{Performed}
 use Rattle.sheet.specs.declared.Transition.{Transition}
 use Rattle.sheet.specs.Bytes.{byte}
 use Rattle.sheet.specs.Table.{Form, after}
-use Rattle.sheet.specs.Decode.{textForm, transitionOf}
+use Rattle.sheet.specs.Decode.{wide, textForm, transitionOf}
 use Rattle.sheet.proofs.Loops.{byte-here}
 use Rattle.sheet.proofs.Tables.{after-step}
 use Rattle.step.specs.declared.Key.{Key}
@@ -26,11 +26,11 @@ use Rattle.step.specs.Lists.{any}
 use Rattle.step.specs.Walk.{trueOf, meetsAt, actedAt, placeOf, enabledAt, firstPlace, movedAt}
 
 module _ (s index : List ℕ) (i : ℕ) (E : Environment) (k : ℕ) (e : k ≡ i) where
-  pub holds-there : k < 65 → (t : List ℕ) → t ≡ textForm .value (drop (getD index k 0) s) → (a : Outcome Bool) → a ≡ conditionOutcome t E → (b : Bool) → b ≡ trueOf a → b ≡ meetsAt s index i E
-  holds-there h t f a g b x = rw (← e, lt-ltb k 65 h, ← f, ← g) x
+  pub holds-there : k < 161 → (t : List ℕ) → t ≡ textForm (wide s) .value (drop (getD index k 0) s) → (a : Outcome Bool) → a ≡ conditionOutcome t E → (b : Bool) → b ≡ trueOf a → b ≡ meetsAt s index i E
+  holds-there h t f a g b x = rw (← e, lt-ltb k 161 h, ← f, ← g) x
 
-  pub holds-past : 65 ≤ k → false ≡ meetsAt s index i E
-  holds-past h = rw (← e, le-ltb k 65 h)
+  pub holds-past : 161 ≤ k → false ≡ meetsAt s index i E
+  holds-past h = rw (← e, le-ltb k 161 h)
 
 -- A transition can be taken where its state and the rest fit.
 module _ (s index : List ℕ) (k : Key) (E : Environment) (t u : Transition) (e : t ≡ u) (f : t .from ≡ k .from) where
@@ -104,11 +104,11 @@ found-within p F (suc n) s a q e = rw (after-step F n s a) (go (p (F .value (dro
     go false f h = h f
 
 module _ (s index : List ℕ) (i : ℕ) (program : List ℕ) (count : ℕ) (variables : List ℕ) (k : ℕ) (e : k ≡ i) where
-  pub acted-there : k < 65 → (t : List ℕ) → t ≡ textForm .value (drop (getD index k 0) s) → (d : Performed) → d ≡ actionPaper count variables (actionOutcome t (environment program (take count variables) [])) → d .variables ≡ actedAt s index i program count variables
-  acted-there h t f d x = rw (← e, lt-ltb k 65 h, ← f) (ap (λ (p : Performed). p .variables) x)
+  pub acted-there : k < 161 → (t : List ℕ) → t ≡ textForm false .value (drop (getD index k 0) s) → (d : Performed) → d ≡ actionPaper count variables (actionOutcome t (environment program (take count variables) [])) → d .variables ≡ actedAt s index i program count variables
+  acted-there h t f d x = rw (← e, lt-ltb k 161 h, ← f) (ap (λ (p : Performed). p .variables) x)
 
-  pub acted-past : 65 ≤ k → variables ≡ actedAt s index i program count variables
-  acted-past h = rw (← e, le-ltb k 65 h)
+  pub acted-past : 161 ≤ k → variables ≡ actedAt s index i program count variables
+  acted-past h = rw (← e, le-ltb k 161 h)
 
 -- what was found is taken, or nothing is
 module _ (s index : List ℕ) (found : Found) (values : List ℕ) (main : ℕ) (variables : List ℕ) (count : ℕ) where

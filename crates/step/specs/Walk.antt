@@ -11,7 +11,7 @@ use Rattle.sheet.specs.declared.Transition.{Transition}
 use Rattle.sheet.specs.Bytes.{byte}
 use Rattle.sheet.specs.Table.{Form}
 use Rattle.sheet.specs.Parts.{Common}
-use Rattle.sheet.specs.Decode.{textForm, transitionOf}
+use Rattle.sheet.specs.Decode.{wide, textForm, transitionOf}
 use Rattle.sheet.specs.declared.Record.{Record}
 use Rattle.sheet.specs.Log.{Event}
 use Rattle.step.specs.Moves.{Configuration, moved}
@@ -27,13 +27,13 @@ abbrev pub trueOf : Outcome Bool → Bool
 trueOf (refused n) = false
 trueOf (given b) = b
 
--- a condition by its number in an index of 65 places
+-- a condition by its number in an index of 161 places
 abbrev pub meetsAt : List ℕ → List ℕ → ℕ → Environment → Bool
-meetsAt s index i E = ltb i 65 && trueOf (conditionOutcome (textForm .value (drop (getD index i 0) s)) E)
+meetsAt s index i E = ltb i 161 && trueOf (conditionOutcome (textForm (wide s) .value (drop (getD index i 0) s)) E)
 
 -- the variables after an action by its number
 abbrev pub actedAt : List ℕ → List ℕ → ℕ → List ℕ → ℕ → List ℕ → List ℕ
-actedAt s index i program count variables = cond (ltb i 65) (actionPaper count variables (actionOutcome (textForm .value (drop (getD index i 0) s)) (environment program (take count variables) [])) .variables) variables
+actedAt s index i program count variables = cond (ltb i 161) (actionPaper count variables (actionOutcome (textForm false .value (drop (getD index i 0) s)) (environment program (take count variables) [])) .variables) variables
 
 -- how many elements stand before the first that passes a test
 unfoldable pub placeOf : {A : Type 0} → (A → Bool) → List A → ℕ

@@ -81,7 +81,7 @@ pub struct Moved {
 // Whether a condition holds over the lent values, by its number in the index of a sheet or network.
 pub fn condition_holds(
     s: &[u8],
-    index: &[u32; 65],
+    index: &[u32; 161],
     i: u8,
     program: &[u32],
     monitor: &[u32],
@@ -90,8 +90,13 @@ pub fn condition_holds(
     ensures { λ r. ⌜ r ≡ meetsAt (now (s .entry)) (now (index .entry)) i (environment (now (program .entry)) (now (monitor .entry)) (now (kept .entry))) ⌝ }
 {
     let k = number(i);
-    if k < 65 {
-        truth(condition::evaluate_condition(sheet::text_at(s, index[k]), program, monitor, kept))
+    if k < 161 {
+        truth(condition::evaluate_condition(
+            sheet::condition_at(s, index[k]),
+            program,
+            monitor,
+            kept,
+        ))
     } else {
         false
     }
@@ -100,7 +105,7 @@ pub fn condition_holds(
 // The variables after an action, by its number in the index, over the event's values.
 pub fn perform_action(
     s: &[u8],
-    index: &[u32; 65],
+    index: &[u32; 161],
     i: u8,
     program: &[u32],
     variables: [u32; 4],
@@ -109,9 +114,9 @@ pub fn perform_action(
     ensures { λ r. ⌜ r ≡ actedAt (now (s .entry)) (now (index .entry)) i (now (program .entry)) count variables ⌝ }
 {
     let k = number(i);
-    if k < 65 {
+    if k < 161 {
         let done = condition::perform(
-            sheet::text_at(s, index[k]),
+            sheet::action_at(s, index[k]),
             program,
             variables,
             count,
@@ -241,7 +246,7 @@ pub fn first_enabled(
     n: u8,
     paired: bool,
     key: Key,
-    index: &[u32; 65],
+    index: &[u32; 161],
     values: &[u32],
     variables: &[u32],
 ) -> Found
@@ -263,7 +268,7 @@ pub fn first_enabled(
 pub fn take_transition(
     s: &[u8],
     found: Found,
-    index: &[u32; 65],
+    index: &[u32; 161],
     values: &[u32],
     main: u8,
     variables: [u32; 4],
@@ -288,7 +293,7 @@ fn enabled(
     s: &[u8],
     at: u32,
     key: Key,
-    index: &[u32; 65],
+    index: &[u32; 161],
     values: &[u32],
     variables: &[u32],
 ) -> bool

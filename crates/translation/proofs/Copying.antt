@@ -1,11 +1,12 @@
 -- Copying bytes and texts of a sheet: each loop's start, room, turn and end. Assumes nothing.
+use mathlib.Core.Bool.{false}
 use mathlib.Core.Path.{_≡_, refl, sym, ap, _∙_}
 use mathlib.Core.List.{List, [], _∷_, _++_}
 use Prim.Native.Nat.{ℕ, suc, _+_, _-_, _≤_, _<_}
 use native.Mathlib.Numerals.{add-one}
 use native.Mathlib.Omega.{arith}
 use lib.ListN.{length, getD, take, drop}
-use lib.Seq.{drop-cons, drop-drop, take-add}
+use lib.Seq.{drop-cons, drop-drop, take-add, take-all}
 use Rattle.sheet.specs.Bytes.{byte}
 use Rattle.sheet.specs.Table.{extent, after}
 use Rattle.sheet.specs.Decode.{textForm}
@@ -48,17 +49,24 @@ module _ (s : List ℕ) (from n : ℕ) (o : List ℕ) (at : ℕ) where
       pub bytes-next : (p : List ℕ) (r : ℕ) → Writes out p here (b ∷ []) r → WritingBytes s from n o at p (i + 1) r
       bytes-next p r w = record { writing = writing-next o at bytes out here (b ∷ []) byte-rest byte-parts p r w }
 
+-- all of some bytes
+pub whole-room : (at : ℕ) (l m : List ℕ) → l ≡ m → length m ≤ 1000000 → Room at m → (0 + length l ≤ length l) × (0 + length l ≤ 1000000) × Room at (take (length l) l)
+whole-room at l m e h r = rw (e, take-all (length m) m (omega arith)) (omega arith, omega arith, r)
+
+pub whole-writes : (l m : List ℕ) → l ≡ m → {o q : List ℕ} {at r : ℕ} → Writes o q at (take (length l) l) r → Writes o q at m r
+whole-writes l m e w = rw (e, take-all (length m) m (omega arith)) at w
+
 -- `left` texts are to be written, from `place` on.
 pub record WritingTexts (s : List ℕ) (from n : ℕ) (o : List ℕ) (at : ℕ) (out : List ℕ) (left place here : ℕ) : Type 0 where
   pub writing : Writing o at (textsAt s from n) out here (textsAt s place left)
-  pub there : after textForm left s place ≡ after textForm n s from
+  pub there : after (textForm false) left s place ≡ after (textForm false) n s from
 
 -- the first text, and the rest
-texts-step : (s : List ℕ) (a n : ℕ) → textsAt s a (suc n) ≡ take (textForm .size (drop a s)) (drop a s) ++ textsAt s (a + textForm .size (drop a s)) n
+texts-step : (s : List ℕ) (a n : ℕ) → textsAt s a (suc n) ≡ take (textForm false .size (drop a s)) (drop a s) ++ textsAt s (a + textForm false .size (drop a s)) n
 unfolding extent
 texts-step s a n =
-    take-add (textForm .size (drop a s)) (extent textForm n (drop (textForm .size (drop a s)) (drop a s))) (drop a s)
-    ∙ ap (λ (l : List ℕ). take (textForm .size (drop a s)) (drop a s) ++ take (extent textForm n l) l) (drop-drop (textForm .size (drop a s)) a s)
+    take-add (textForm false .size (drop a s)) (extent (textForm false) n (drop (textForm false .size (drop a s)) (drop a s))) (drop a s)
+    ∙ ap (λ (l : List ℕ). take (textForm false .size (drop a s)) (drop a s) ++ take (extent (textForm false) n l) l) (drop-drop (textForm false .size (drop a s)) a s)
 
 module _ (s : List ℕ) (from n : ℕ) (o : List ℕ) (at : ℕ) where
   pub texts-start : WritingTexts s from n o at o n from at
@@ -71,7 +79,7 @@ module _ (s : List ℕ) (from n : ℕ) (o : List ℕ) (at : ℕ) where
         let e : left ≡ 0 = omega arith in
         record {
           writes = writing-end o at (textsAt s from n) out here (rw e at (g .writing));
-          read = sym (after-none textForm s place) ∙ rw e at (g .there);
+          read = sym (after-none (textForm false) s place) ∙ rw e at (g .there);
         }
 
     -- the next text: its length byte is b, read as w
@@ -79,13 +87,13 @@ module _ (s : List ℕ) (from n : ℕ) (o : List ℕ) (at : ℕ) where
       more : left ≡ suc (left - 1)
       more = omega arith
 
-      sized : 1 + w ≡ textForm .size (drop place s)
+      sized : 1 + w ≡ textForm false .size (drop place s)
       sized = ap (λ (x : ℕ). 1 + x) (f ∙ e ∙ byte-here s place)
 
-      text-there : after textForm (left - 1) s (place + (1 + w)) ≡ after textForm n s from
-      text-there = rw sized (sym (after-step textForm (left - 1) s place) ∙ rw more at (g .there))
+      text-there : after (textForm false) (left - 1) s (place + (1 + w)) ≡ after (textForm false) n s from
+      text-there = rw sized (sym (after-step (textForm false) (left - 1) s place) ∙ rw more at (g .there))
 
-      pub text-within : after textForm n s from ≤ length s → place + (1 + w) ≤ length s
+      pub text-within : after (textForm false) n s from ≤ length s → place + (1 + w) ≤ length s
       text-within k = omega (arith, text-there)
 
       module _ (a k : ℕ) (ea : a ≡ place) (ek : k ≡ 1 + w) where

@@ -1,4 +1,5 @@
 -- From the tables and the header to the network in its buffer. Assumes nothing.
+use mathlib.Core.Bool.{false}
 use mathlib.Core.Path.{_≡_, refl, sym, ap, ap₂, _∙_}
 use mathlib.Core.List.{List, _++_}
 use Prim.Native.Nat.{ℕ, _+_, _≤_, _<_}
@@ -10,7 +11,7 @@ use Rattle.sheet.specs.declared.Header.{Header}
 use Rattle.sheet.specs.declared.Places.{Places}
 use Rattle.sheet.specs.declared.Reading.{Reading}
 use Rattle.sheet.specs.declared.Reading.the-variants as reading
-use Rattle.sheet.specs.Decode.{textForm, transitionForm, conditionsIn, actionsIn, transitionsIn, conditionsAt, actionsAt, transitionsAt, commonOf, sheetOf}
+use Rattle.sheet.specs.Decode.{wide, textForm, transitionForm, conditionsIn, actionsIn, transitionsIn, conditionsAt, actionsAt, transitionsAt, commonOf, sheetOf}
 use Rattle.sheet.specs.Encode.{tableBytes, headerBytes, encode}
 use Rattle.sheet.specs.Reading.{reading, sheetLayout}
 use Rattle.sheet.specs.Answer.{answer, headerOf, placesOf}
@@ -26,7 +27,7 @@ use Rattle.translation.specs.Answer.{networkBytes, translateRefusal, tra
 use Rattle.translation.specs.Walk.{Prepared, Measures, Writes, WritesTables, tablesAt, headerAt}
 use Rattle.translation.proofs.Counting.{added-length}
 use Rattle.translation.proofs.Networks.{translate-longest}
-use Rattle.translation.proofs.Images.{added-same, tables-same, header-same}
+use Rattle.translation.proofs.Images.{added-same, networkHeader, tables-same, header-same}
 use Rattle.translation.proofs.Writing.{writes-then}
 
 abbrev frameWith : Header → ℕ → Frame
@@ -40,13 +41,13 @@ module _ {s : List ℕ} {h : Header} {f : Frame} {from : ℕ} (p : Prepared s h 
   there : Accepted sheetLayout s
   there = accepted sheetLayout s (p .accepted)
 
-  tables-are : tablesAt s h f from ≡ tableBytes (translate (sheetOf s))
+  tables-are : tablesAt s h f from ≡ tableBytes false (translate (sheetOf s))
   tables-are = rw (p .header, p .frame, p .from) (tables-same there)
 
   -- header and tables are the network
   pub tables-length : 14 + length (tablesAt s h f from) ≡ length (networkBytes s)
   unfolding networkBytes encode
-  tables-length = rw tables-are (sym (length-append (headerBytes (translate (sheetOf s)) (14 + length (tableBytes (translate (sheetOf s))))) (tableBytes (translate (sheetOf s)))))
+  tables-length = rw tables-are (sym (length-append (headerBytes false (translate (sheetOf s)) (14 + length (tableBytes false (translate (sheetOf s))))) (tableBytes false (translate (sheetOf s)))))
 
   pub network-small : length (networkBytes s) ≤ 7904
   unfolding networkBytes
@@ -56,8 +57,8 @@ module _ {s : List ℕ} {h : Header} {f : Frame} {from : ℕ} (p : Prepared s h 
   unfolding commonOf
   few-texts =
       let b = bounds there in
-      let c = length-records textForm (conditionsIn s) (drop (conditionsAt s) s) in
-      let d = length-records textForm (actionsIn s) (drop (actionsAt s) s) in
+      let c = length-records (textForm (wide s)) (conditionsIn s) (drop (conditionsAt s) s) in
+      let d = length-records (textForm false) (actionsIn s) (drop (actionsAt s) s) in
       rw (p .header) (omega (arith, b .conditions), omega (arith, b .actions))
 
   pub few-transitions : (n : ℕ) → n ≡ h .transitions → (r : Spot) → Measures s r → n + r .added < 256
@@ -75,21 +76,21 @@ module _ {s : List ℕ} {h : Header} {f : Frame} {from : ℕ} (p : Prepared s h 
         added = w .added ∙ rw (p .header, p .frame) (ap length (added-same s));
       }
 
-  pub filled : (r : Spot) → Measures s r → (n : ℕ) → n ≡ h .transitions → (o : List ℕ) → length (networkBytes s) ≤ length o → (q : List ℕ) (at : ℕ) → Writes o q 0 (headerAt h (r .at) (n + r .added)) at
+  pub filled : (r : Spot) → Measures s r → (n : ℕ) → n ≡ h .transitions → (o : List ℕ) → length (networkBytes s) ≤ length o → (q : List ℕ) (at : ℕ) → Writes o q 0 (headerAt (networkHeader h (n + r .added)) (r .at) 2) at
       → (x : List ℕ) (z : Spot) → WritesTables s h f from q x at z → x ≡ networkBytes s ++ drop (length (networkBytes s)) o
   unfolding networkBytes encode
   filled r m n en o room q at v x z w =
       let N = translate (sheetOf s) in
-      let size : r .at ≡ 14 + length (tableBytes N) = m .size ∙ sym tables-length ∙ ap (λ (l : List ℕ). 14 + length l) tables-are in
+      let size : r .at ≡ 14 + length (tableBytes false N) = m .size ∙ sym tables-length ∙ ap (λ (l : List ℕ). 14 + length l) tables-are in
       let count : n ≡ transitionsIn s = en ∙ ap (λ (y : Header). y .transitions) (p .header) in
-      let head : headerAt h (r .at) (n + r .added) ≡ headerBytes N (14 + length (tableBytes N)) = rw (size, count, m .added, p .header) (header-same there (14 + length (tableBytes N))) in
-      let both = writes-then (headerAt h (r .at) (n + r .added)) (tablesAt s h f from) v (w .writes) in
-      let net : headerAt h (r .at) (n + r .added) ++ tablesAt s h f from ≡ encode N = ap₂ (λ (a b : List ℕ). a ++ b) head tables-are in
-      let none : 0 + length (encode N) ≡ length (encode N) = omega arith in
-      both .all ∙ ap (sets o 0) net ∙ sets-eq (encode N) o 0 (omega arith) ∙ ap (λ (k : ℕ). encode N ++ drop k o) none
+      let head : headerAt (networkHeader h (n + r .added)) (r .at) 2 ≡ headerBytes false N (14 + length (tableBytes false N)) = rw (size, count, m .added, p .header) (header-same there (14 + length (tableBytes false N))) in
+      let both = writes-then (headerAt (networkHeader h (n + r .added)) (r .at) 2) (tablesAt s h f from) v (w .writes) in
+      let net : headerAt (networkHeader h (n + r .added)) (r .at) 2 ++ tablesAt s h f from ≡ encode false N = ap₂ (λ (a b : List ℕ). a ++ b) head tables-are in
+      let none : 0 + length (encode false N) ≡ length (encode false N) = omega arith in
+      both .all ∙ ap (sets o 0) net ∙ sets-eq (encode false N) o 0 (omega arith) ∙ ap (λ (k : ℕ). encode false N ++ drop k o) none
 
 -- What translating answers, and the buffer.
-abbrev asTranslated : Reading → Translated
+abbrev pub asTranslated : Reading → Translated
 asTranslated reading.Accepted = Written 0
 asTranslated (reading.Refused n) = Refused n
 

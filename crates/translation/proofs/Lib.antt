@@ -11,3 +11,11 @@ pub mod Pairing
 pub mod Adding
 pub mod Putting
 pub mod Cut
+pub mod Records
+pub mod Reaching
+pub mod Joining
+pub mod Listing
+pub mod CardTabling
+pub mod CardFilling
+pub mod Widening
+pub mod Guarding

@@ -1,31 +1,31 @@
 -- The network of an accepted sheet is accepted, reads back as it is, and is never longer than 7,904 bytes. Assumes nothing.
-use mathlib.Core.Path.{_≡_, refl}
+use mathlib.Core.Path.{_≡_, refl, subst}
 use mathlib.Core.Bool.{Bool, true, false, not, cond, _&&_}
 use mathlib.Core.List.{List, [], _∷_, _++_, map}
-use Prim.Native.Nat.{ℕ, zero, suc, _≤_, _<_}
+use Prim.Native.Nat.{ℕ, zero, suc, _+_, _≤_, _<_}
 use native.Mathlib.Omega.{arith}
 use native.Mathlib.Nat.{zero-add}
-use borrow.Author.Tests.{eqb-true}
-use lib.Dec.{eqb}
-use lib.ListN.{length, getD, length-append, length-map, List·getD-map}
+use borrow.Author.Tests.{eqb-true, le-leb}
+use lib.Dec.{eqb, leb}
+use lib.ListN.{length, take, drop, getD, length-append, length-map, List·getD-map}
 use lib.Seq.{getD-append-seam}
 use Rattle.condition.specs.Tree.{conditionNames, actionNames, isAtEntry}
 use Rattle.condition.specs.Parse.{conditionFrom, parseCondition, conditionOperator, runFrom, parseAction}
-use Rattle.condition.specs.Answer.{conditionWhich, actionWhich}
+use Rattle.condition.specs.Answer.{longest, sized, conditionWhich, actionWhich}
 use Rattle.sheet.specs.declared.Transition.{Transition}
 use Rattle.sheet.specs.declared.Triple.{Triple}
 use Rattle.sheet.specs.declared.Pair.{Pair}
 use Rattle.sheet.specs.declared.Template.{Template}
-use Rattle.sheet.specs.Table.{every}
+use Rattle.sheet.specs.Table.{every, records, table}
 use Rattle.sheet.specs.Parts.{Common, Sheet, Paired}
-use Rattle.sheet.specs.Decode.{transitionForm, tripleForm, sheetOf, networkOf}
-use Rattle.sheet.specs.Encode.{encode, withinCounts, admitted}
-use Rattle.sheet.specs.Reading.{precondition, between, lentIn, formed, usedWell, roled, ranged, countsOf, transitionRanged, together, sheetLayout, pairRanged, templateRanged, networkLayout}
+use Rattle.sheet.specs.Decode.{wide, lead, said, textForm, lengthForm, transitionForm, tripleForm, conditionsIn, actionsIn, conditionsAt, actionsAt, commonOf, sheetOf, networkOf}
+use Rattle.sheet.specs.Encode.{encode, withinCounts, withinLengths, admitted}
+use Rattle.sheet.specs.Reading.{precondition, between, mostBytes, transitionsOf, lastOf, lentIn, formed, usedWell, roled, ranged, countsOf, transitionRanged, together, sheetLayout, pairRanged, templateRanged, networkLayout}
 use Rattle.sheet.proofs.Tables.{and-parts, and-both, every-append, every-map, every-weaker}
 use Rattle.sheet.proofs.Tests.{and-iff, leb-iff, eqb-iff, not-iff}
-use Rattle.sheet.proofs.Accepted.{Accepted, Bounds, bounds, GoodTransition, GoodTriple, GoodTemplate, GoodPair, sheet-transition, sheet-triple, sheet-together}
+use Rattle.sheet.proofs.Accepted.{Accepted, Bounds, bounds, condition-lengths, action-lengths, GoodTransition, GoodTriple, GoodTemplate, GoodPair, sheet-transition, sheet-triple, sheet-together}
 use Rattle.sheet.proofs.Encoding.{decode-encode, accepted-encode}
-use Rattle.sheet.proofs.Limits.{encode-longest}
+use Rattle.sheet.proofs.Limits.{sheet-narrow, encode-longest}
 use Rattle.translation.specs.Translate.{pairsOf, copied, back, joined, added, extended, templateOf, translate}
 use Rattle.translation.proofs.Counting.{added-length, joined-every, pairs-every, pairs-few}
 
@@ -37,23 +37,59 @@ noTriple = tripleForm .value []
 
 -- What acceptance gives of a sheet without its bytes.
 record GoodSheet (S : Sheet) : Type 0 where
-  bounds : Bounds sheetLayout (S .common) (S .transitions) (S .triples)
+  bounds : Bounds sheetLayout false (S .common) (S .transitions) (S .triples)
   formed : formed (S .common) ≡ true
+  conditions : every (λ t. leb (length t) 64) (S .common .conditions) ≡ true
+  actionLengths : every (λ t. leb (length t) 64) (S .common .actions) ≡ true
   actions : every (λ a. not (actionWhich (λ r. actionNames r isAtEntry) (lentIn (S .common)) a)) (S .common .actions) ≡ true
   transition : (i : ℕ) → i < length (S .transitions) → GoodTransition (S .common) (getD (S .transitions) i noTransition)
   triple : (i : ℕ) → i < length (S .triples) → GoodTriple (S .common) (getD (S .triples) i noTriple)
   few : (i : ℕ) → i < length (S .triples) → together (getD (S .triples) i noTriple) (S .triples) ≤ 4
 
+-- 4, of the texts themselves
+pub take-most : {A : Type 0} (n : ℕ) (l : List A) → length (take n l) ≤ n
+take-most zero l = omega arith
+take-most (suc n) [] = omega arith
+take-most (suc n) (x ∷ l) = omega (arith, take-most n l)
+
+pub texts-most : (w : Bool) (low high n : ℕ) (s : List ℕ) → every (between low high) (records (lengthForm w) n s) ≡ true → every (λ t. leb (length t) high) (records (textForm w) n s) ≡ true
+unfolding every records
+texts-most w low high zero s h = refl
+texts-most w low high (suc n) s h =
+    let (a, b) = and-parts (between low high (said w s)) (every (between low high) (records (lengthForm w) n (drop (lead w + said w s) s))) h in
+    let (c, d) = simp (and-iff, leb-iff) at a in
+    and-both (le-leb (length (take (said w s) (drop (lead w) s))) high (omega (arith, take-most (said w s) (drop (lead w) s)))) (texts-most w low high n (drop (lead w + said w s) s) b)
+
+module _ {s : List ℕ} (a : Accepted sheetLayout s) where
+  few-conditions : every (λ t. leb (length t) 64) (commonOf s .conditions) ≡ true
+  unfolding commonOf
+  few-conditions =
+      subst (λ (v : Bool). every (λ t. leb (length t) (mostBytes v)) (table (textForm (wide s)) (conditionsIn s) s (conditionsAt s)) ≡ true) (sheet-narrow s (a .version)) (texts-most (wide s) 1 (mostBytes (wide s)) (conditionsIn s) (drop (conditionsAt s) s) (condition-lengths a))
+
+  few-actions : every (λ t. leb (length t) 64) (commonOf s .actions) ≡ true
+  unfolding commonOf
+  few-actions = texts-most false 0 64 (actionsIn s) (drop (actionsAt s) s) (action-lengths a)
+
 good-sheet : {s : List ℕ} → Accepted sheetLayout s → GoodSheet (sheetOf s)
 unfolding sheetOf roled
-good-sheet a = record {
-  bounds = bounds a;
+good-sheet {s} a = record {
+  bounds = subst (λ (v : Bool). Bounds sheetLayout v (commonOf s) (transitionsOf sheetLayout s) (lastOf sheetLayout s)) (sheet-narrow s (a .version)) (bounds a);
   formed = a .formed;
+  conditions = few-conditions a;
+  actionLengths = few-actions a;
   actions = simp and-iff at (a .roled) .0;
   transition = λ i h. sheet-transition a i noTransition h;
   triple = λ i h. sheet-triple a i noTriple h;
   few = λ i h. sheet-together a i noTriple h;
 }
+
+every-two : {A : Type 0} (p q : A → Bool) (l : List A) → every p l ≡ true → every q l ≡ true → every (λ x. p x && q x) l ≡ true
+unfolding every
+every-two p q [] h k = refl
+every-two p q (x ∷ l) h k =
+    let (a, b) = and-parts (p x) (every p l) h in
+    let (c, d) = and-parts (q x) (every q l) k in
+    and-both (and-both a c) (every-two p q l b d)
 
 -- Two tests on all elements; a test on all by their numbers; the default added behind them.
 every-parts : {A : Type 0} (p q : A → Bool) (l : List A) → every (λ x. p x && q x) l ≡ true → (every p l ≡ true) × (every q l ≡ true)
@@ -209,7 +245,7 @@ module _ (S : Sheet) (g : GoodSheet S) where
       template-asked C (record { unit = v .unit; postcondition = v .postcondition; noMonitorAfter = v .noMonitorAfter })))
 
   -- "up to 65 conditions, 33 actions, 96 transitions"
-  translate-counts : withinCounts (translate S) ≡ true
+  translate-counts : withinCounts false (translate S) ≡ true
   unfolding withinCounts translate extended
   translate-counts =
       let b = g .bounds in
@@ -221,7 +257,15 @@ module _ (S : Sheet) (g : GoodSheet S) where
       simp (and-iff, leb-iff, eqb-iff, not-iff)
       ((b .someState, b .states), ((b .someUnit, b .units), (b .programs, (b .monitors, (c, (a, (n, (l, (b .start, (b .bad, (b .startGood, b .initial)))))))))))
 
-  translate-good : admitted (translate S) ≡ true
+  translate-lengths : withinLengths false (translate S) ≡ true
+  unfolding withinLengths translate extended formed conditionWhich every
+  translate-lengths =
+      let (c, a) = simp and-iff at (g .formed) in
+      let least : every (λ t. leb 1 (length t)) (S .common .conditions) ≡ true = every-weaker _ _ (λ t e. and-parts (leb 1 (length t)) (leb (length t) longest) (and-parts (sized t) _ e .0) .0) (S .common .conditions) c in
+      rw (every-append (λ t. between 1 64 (length t)) (S .common .conditions) ((0 ∷ []) ∷ []), every-append (λ t. between 0 64 (length t)) (S .common .actions) ([] ∷ []))
+      (and-both (and-both (every-two (λ t. leb 1 (length t)) (λ t. leb (length t) 64) (S .common .conditions) least (g .conditions)) refl) (and-both (every-weaker _ _ (λ t e. and-both (le-leb 0 (length t) (omega arith)) e) (S .common .actions) (g .actionLengths)) refl))
+
+  translate-good : admitted false (translate S) ≡ true
   unfolding admitted ranged roled translate
   translate-good =
       let ts = translate S .transitions in
@@ -229,19 +273,19 @@ module _ (S : Sheet) (g : GoodSheet S) where
       let (few, more) = every-parts (λ t. between 0 4 (length (t .pairs))) (λ t. networkLayout .transitionRanged C rs t && used t) ts transitions-asked in
       let (r, u) = every-parts (networkLayout .transitionRanged C rs) used ts more in
       let (r′, u′) = every-parts (networkLayout .lastRanged C) (λ t. every (usedWell C) (networkLayout .lastUses t)) rs templates-asked in
-      and-both translate-counts (and-both few (and-both (extended-formed (S .common) (g .formed)) (and-both (and-both r r′) (and-both (extended-actions (S .common) (g .actions)) (and-both u u′)))))
+      and-both translate-counts (and-both translate-lengths (and-both few (and-both (extended-formed (S .common) (g .formed)) (and-both (and-both r r′) (and-both (extended-actions (S .common) (g .actions)) (and-both u u′))))))
 
 -- The network of an accepted sheet: its bytes are accepted, they read back as it is, and 8,192 always hold them.
 module _ {s : List ℕ} (a : Accepted sheetLayout s) where
-  pub translate-admitted : admitted (translate (sheetOf s)) ≡ true
+  pub translate-admitted : admitted false (translate (sheetOf s)) ≡ true
   translate-admitted = translate-good (sheetOf s) (good-sheet a)
 
-  pub translate-accepted : Accepted networkLayout (encode (translate (sheetOf s)))
-  translate-accepted = accepted-encode (translate (sheetOf s)) translate-admitted
+  pub translate-accepted : Accepted networkLayout (encode false (translate (sheetOf s)))
+  translate-accepted = accepted-encode false (translate (sheetOf s)) translate-admitted
 
-  pub translate-decodes : networkOf (encode (translate (sheetOf s))) ≡ translate (sheetOf s)
+  pub translate-decodes : networkOf (encode false (translate (sheetOf s))) ≡ translate (sheetOf s)
   unfolding sheetOf translate extended
-  translate-decodes = decode-encode (translate (sheetOf s)) (bounds a .initial)
+  translate-decodes = decode-encode false (translate (sheetOf s)) (bounds a .initial)
 
-  pub translate-longest : length (encode (translate (sheetOf s))) ≤ 7904
-  translate-longest = encode-longest (translate (sheetOf s)) translate-admitted
+  pub translate-longest : length (encode false (translate (sheetOf s))) ≤ 7904
+  translate-longest = encode-longest false (translate (sheetOf s)) translate-admitted

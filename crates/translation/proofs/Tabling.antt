@@ -1,12 +1,13 @@
 -- The tables of the network, part by part. Assumes nothing.
-use mathlib.Core.Path.{_≡_, refl, ap}
+use mathlib.Core.Bool.{false}
+use mathlib.Core.Path.{_≡_, refl, ap, subst}
 use mathlib.Core.List.{List, [], _∷_, _++_}
 use Prim.Native.Nat.{ℕ, _+_, _*_, _≤_}
 use native.Mathlib.Omega.{arith}
-use lib.ListN.{length}
+use lib.ListN.{length, drop}
 use Rattle.sheet.specs.declared.Header.{Header}
-use Rattle.sheet.specs.Table.{table, after}
-use Rattle.sheet.specs.Decode.{wordForm, textForm, transitionForm, conditionsAt, actionsAt, lastAt, sheetOf}
+use Rattle.sheet.specs.Table.{extent, table, after}
+use Rattle.sheet.specs.Decode.{wordForm, textForm, transitionForm, actionsIn, conditionsAt, lastAt, sheetOf}
 use Rattle.sheet.specs.Encode.{wordBytes, pairedBytes, written}
 use Rattle.sheet.specs.Reading.{sheetLayout}
 use Rattle.sheet.proofs.Accepted.{Accepted, accepted, bounds, tables-end}
@@ -18,9 +19,13 @@ use Rattle.translation.specs.declared.write.Both.{Both}
 use Rattle.translation.specs.Translate.{added}
 use Rattle.translation.specs.Walk.{Room, Prepared, Writes, WritesAdded, WritesTexts, WritesTables, textsAt, addedAt, copiedBytes, templatesAt, tablesAt}
 use Rattle.translation.proofs.Counting.{added-length}
-use Rattle.translation.proofs.Images.{conditions-within, actions-within, added-same}
+use Rattle.translation.proofs.Images.{at-narrow, conditions-within, actions-within, added-same}
 use Rattle.translation.proofs.Filling.{tables-length, network-small}
 use Rattle.translation.proofs.Writing.{Writing, writing-start, writing-room, writing-next, writing-last}
+
+-- behind the values
+pub words-after : (s : List ℕ) (v n : ℕ) → n ≡ v → 14 + 4 * n ≡ after wordForm v s 14
+words-after s v n e = omega (arith, fixed-after wordForm 4 (λ t. refl) v s 14)
 
 module _ {s : List ℕ} {h : Header} {f : Frame} {from : ℕ} (p : Prepared s h f from) (o : List ℕ) (at : ℕ) (e : at ≡ 14) where
   there : Accepted sheetLayout s
@@ -33,7 +38,7 @@ module _ {s : List ℕ} {h : Header} {f : Frame} {from : ℕ} (p : Prepared s h 
   conditions = after wordForm (h .monitors) s 14
 
   abbrev actions : ℕ
-  actions = after textForm (h .conditions) s conditions
+  actions = after (textForm false) (h .conditions) s conditions
 
   abbrev first : List ℕ
   first = written wordBytes (table wordForm (h .monitors) s 14)
@@ -77,17 +82,14 @@ module _ {s : List ℕ} {h : Header} {f : Frame} {from : ℕ} (p : Prepared s h 
       let triples : f .triples ≡ lastAt transitionForm s = ap (λ (x : Frame). x .triples) (p .frame) in
       (omega arith, omega (arith, p .from), omega arith)
 
-  pub conditions-at : (n : ℕ) → n ≡ h .monitors → 14 + 4 * n ≡ after wordForm (h .monitors) s 14
-  conditions-at n en = omega (arith, fixed-after wordForm 4 (λ t. refl) (h .monitors) s 14)
-
   -- the texts end within the sheet
-  pub conditions-end : (n : ℕ) → n ≡ after wordForm (h .monitors) s 14 → after textForm (h .conditions) s n ≤ length s
+  pub conditions-end : (n : ℕ) → n ≡ after wordForm (h .monitors) s 14 → after (textForm false) (h .conditions) s n ≤ length s
   unfolding conditionsAt
   conditions-end n en = rw (en, p .header) (conditions-within there)
 
-  pub actions-end : (n : ℕ) → n ≡ after textForm (h .conditions) s (after wordForm (h .monitors) s 14) → after textForm (h .actions) s n ≤ length s
-  unfolding conditionsAt actionsAt
-  actions-end n en = rw (en, p .header) (actions-within there)
+  pub actions-end : (n : ℕ) → n ≡ after (textForm false) (h .conditions) s (after wordForm (h .monitors) s 14) → after (textForm false) (h .actions) s n ≤ length s
+  unfolding conditionsAt
+  actions-end n en = rw (en, p .header) (subst (λ (m : ℕ). m + extent (textForm false) (actionsIn s) (drop m s) ≤ length s) (at-narrow there) (actions-within there))
 
   pub added-few : length (addedAt s f (h .states) (h .units)) ≤ 1000
   unfolding sheetOf
@@ -112,7 +114,7 @@ module _ {s : List ℕ} {h : Header} {f : Frame} {from : ℕ} (p : Prepared s h 
       pub next-second : (q : List ℕ) (r : Both) → WritesTexts s out q n (h .conditions) here r → Writing o at whole q (r .at) (1 ∷ 0 ∷ from-third)
       next-second q r w = writing-next o at whole out here second (1 ∷ 0 ∷ from-third) g q (r .at) (rw en at (w .writes))
 
-      pub read-second : (q : List ℕ) (r : Both) → WritesTexts s out q n (h .conditions) here r → r .from ≡ after textForm (h .conditions) s (after wordForm (h .monitors) s 14)
+      pub read-second : (q : List ℕ) (r : Both) → WritesTexts s out q n (h .conditions) here r → r .from ≡ after (textForm false) (h .conditions) s (after wordForm (h .monitors) s 14)
       read-second q r w = rw en at (w .read)
 
     module _ (g : Writing o at whole out here (1 ∷ 0 ∷ from-third)) where
@@ -122,7 +124,7 @@ module _ {s : List ℕ} {h : Header} {f : Frame} {from : ℕ} (p : Prepared s h 
       pub next-true : (q : List ℕ) (r : ℕ) → Writes out q here (1 ∷ 0 ∷ []) r → Writing o at whole q r from-third
       next-true q r w = writing-next o at whole out here (1 ∷ 0 ∷ []) from-third g q r w
 
-    module _ (g : Writing o at whole out here from-third) (n : ℕ) (en : n ≡ after textForm (h .conditions) s (after wordForm (h .monitors) s 14)) where
+    module _ (g : Writing o at whole out here from-third) (n : ℕ) (en : n ≡ after (textForm false) (h .conditions) s (after wordForm (h .monitors) s 14)) where
       pub room-third : Room here (textsAt s n (h .actions))
       room-third = rw en (writing-room o at whole out here third (0 ∷ from-fourth) g total)
 

@@ -1,6 +1,6 @@
 -- What the private functions promise: what they write from a place on, and the place behind it.
 use mathlib.Core.Path.{_≡_}
-use mathlib.Core.Bool.{cond}
+use mathlib.Core.Bool.{false, cond}
 use mathlib.Core.List.{List, [], _∷_, _++_, map}
 use Prim.Native.Nat.{ℕ, _+_, _≤_}
 use lib.Dec.{eqb}
@@ -38,11 +38,11 @@ pub record WritesAdded (o p : List ℕ) (b : Spot) (l : List Paired) (r : Spot) 
 
 -- the bytes of n texts of a sheet from a place on; and of what is read, where it ends
 abbrev pub textsAt : List ℕ → ℕ → ℕ → List ℕ
-textsAt s from n = take (extent textForm n (drop from s)) (drop from s)
+textsAt s from n = take (extent (textForm false) n (drop from s)) (drop from s)
 
 pub record WritesTexts (s o p : List ℕ) (from n at : ℕ) (r : Both) : Type 0 where
   pub writes : Writes o p at (textsAt s from n) (r .at)
-  pub read : r .from ≡ after textForm n s from
+  pub read : r .from ≡ after (textForm false) n s from
 
 -- the triples of a sheet's bytes
 abbrev pub triplesAt : List ℕ → Frame → List Triple
@@ -91,7 +91,7 @@ pub record Prepared (s : List ℕ) (h : Header) (f : Frame) (transitions : ℕ) 
 unfoldable pub tablesAt : List ℕ → Header → Frame → ℕ → List ℕ
 tablesAt s h f transitions =
     let conditions = after wordForm (h .monitors) s 14 in
-    let actions = after textForm (h .conditions) s conditions in
+    let actions = after (textForm false) (h .conditions) s conditions in
     written wordBytes (table wordForm (h .monitors) s 14)
     ++ (textsAt s conditions (h .conditions)
     ++ 1 ∷ 0 ∷ (textsAt s actions (h .actions)
@@ -103,10 +103,10 @@ pub record WritesTables (s : List ℕ) (h : Header) (f : Frame) (transitions : �
   pub writes : Writes o p at (tablesAt s h f transitions) (r .at)
   pub added : r .added ≡ length (addedAt s f (h .states) (h .units))
 
--- the header of the network
+-- the header of a network of this size and version
 abbrev pub headerAt : Header → ℕ → ℕ → List ℕ
-headerAt h size transitions =
-    halfBytes size ++ 2 ∷ h .states ∷ h .units ∷ h .programs ∷ h .monitors ∷ h .start ∷ (halfBytes (h .bad) ++ (h .conditions + 1) ∷ (h .actions + 1) ∷ transitions ∷ h .last ∷ [])
+headerAt h size version =
+    halfBytes size ++ version ∷ h .states ∷ h .units ∷ h .programs ∷ h .monitors ∷ h .start ∷ (halfBytes (h .bad) ++ h .conditions ∷ h .actions ∷ h .transitions ∷ h .last ∷ [])
 
 -- how long the network is, and how many transitions are added
 pub record Measures (s : List ℕ) (r : Spot) : Type 0 where

@@ -1,9 +1,10 @@
-// A sheet's network, written into a lent buffer.
+// A sheet's network in either form, written into a lent buffer.
 
 ghost use mathlib.Core.Path.{_≡_};
-ghost use Rattle.translation.specs.Answer.{translatedOf, bufferOf};
+ghost use Rattle.translation.specs.Answer.{translatedOf, bufferOf, cardOf, cardBufferOf};
 use sheet::Reading;
 
+mod card;
 mod write;
 
 // What translating answers: how many bytes the network has, or the refusal.
@@ -18,6 +19,17 @@ pub fn translate(s: &[u8], out: &mut [u8]) -> Translated
 {
     match sheet::read_sheet(s) {
         Reading::Accepted => write::translate(s, out),
+        Reading::Refused(n) => Translated::Refused(n),
+    }
+}
+
+// The same in the second form, version 3, for the card: the transitions of a state, kind and unit exclude
+// each other.
+pub fn translate_card(s: &[u8], out: &mut [u8]) -> Translated
+    ensures { λ r. ⌜ (r ≡ cardOf (now (s .entry)) (now (out .entry))) × (now (out .exit) ≡ cardBufferOf (now (s .entry)) (now (out .entry))) ⌝ }
+{
+    match sheet::read_sheet(s) {
+        Reading::Accepted => card::translate(s, out),
         Reading::Refused(n) => Translated::Refused(n),
     }
 }

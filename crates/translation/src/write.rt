@@ -1,5 +1,6 @@
 // Writing a network. Each writer stores where there is room and answers the next place.
 
+ghost use mathlib.Core.Bool.{false};
 ghost use mathlib.Core.Path.{_≡_};
 ghost use mathlib.Core.List.{[], _∷_, _++_, map};
 ghost use Prim.Native.Nat.{_+_, _≤_, _<_};
@@ -48,7 +49,7 @@ fn put(out: &mut [u8], at: usize, b: u8) -> usize
 }
 
 // Two bytes.
-fn put_two(out: &mut [u8], at: usize, a: u8, b: u8) -> usize
+pub(crate) fn put_two(out: &mut [u8], at: usize, a: u8, b: u8) -> usize
     requires { ⌜ Room at (a ∷ b ∷ []) ⌝ }
     ensures { λ r. ⌜ Writes (now (out .entry)) (now (out .exit)) at (a ∷ b ∷ []) r ⌝ }
 {
@@ -57,7 +58,7 @@ fn put_two(out: &mut [u8], at: usize, a: u8, b: u8) -> usize
 }
 
 // A number in two bytes.
-fn put_half(out: &mut [u8], at: usize, m: u16) -> usize
+pub(crate) fn put_half(out: &mut [u8], at: usize, m: u16) -> usize
     requires { ⌜ Room at (halfBytes m) ⌝ }
     ensures { λ r. ⌜ Writes (now (out .entry)) (now (out .exit)) at (halfBytes m) r ⌝ }
 {
@@ -79,7 +80,7 @@ fn put_word(out: &mut [u8], at: usize, m: u32) -> usize
 }
 
 // Words of a sheet, from a place on.
-fn words(s: &[u8], from: u32, n: u8, out: &mut [u8], at: usize) -> usize
+pub(crate) fn words(s: &[u8], from: u32, n: u8, out: &mut [u8], at: usize) -> usize
     requires { ⌜ (from ≤ 100000) × Room at (written wordBytes (table wordForm n (now s) from)) ⌝ }
     ensures { λ r. ⌜ Writes (now (out .entry)) (now (out .exit)) at (written wordBytes (table wordForm n (now (s .entry)) from)) r ⌝ }
 {
@@ -95,7 +96,7 @@ fn words(s: &[u8], from: u32, n: u8, out: &mut [u8], at: usize) -> usize
 }
 
 // Bytes of a sheet, from a place on.
-fn copy(s: &[u8], from: usize, n: usize, out: &mut [u8], at: usize) -> usize
+pub(crate) fn copy(s: &[u8], from: usize, n: usize, out: &mut [u8], at: usize) -> usize
     requires { ⌜ (from + n ≤ length (now s)) × (from + n ≤ 1000000) × Room at (take n (drop from (now s))) ⌝ }
     ensures { λ r. ⌜ Writes (now (out .entry)) (now (out .exit)) at (take n (drop from (now (s .entry)))) r ⌝ }
 {
@@ -109,8 +110,8 @@ fn copy(s: &[u8], from: usize, n: usize, out: &mut [u8], at: usize) -> usize
 }
 
 // Texts of a sheet, from a place on, with their length bytes.
-fn texts(s: &[u8], from: u32, n: u8, out: &mut [u8], at: usize) -> Both
-    requires { ⌜ (after textForm n (now s) from ≤ length (now s)) × (length (now s) ≤ 65535) × Room at (textsAt (now s) from n) ⌝ }
+pub(crate) fn texts(s: &[u8], from: u32, n: u8, out: &mut [u8], at: usize) -> Both
+    requires { ⌜ (after (textForm false) n (now s) from ≤ length (now s)) × (length (now s) ≤ 65535) × Room at (textsAt (now s) from n) ⌝ }
     ensures { λ r. ⌜ WritesTexts (now (s .entry)) (now (out .entry)) (now (out .exit)) from n at r ⌝ }
 {
     let mut left = n;
@@ -176,7 +177,7 @@ fn with_pairs(s: &[u8], f: Frame, state: u8, unit: u8, out: &mut [u8], at: usize
 }
 
 // The six bytes of a transition.
-fn base(out: &mut [u8], at: usize, t: Transition) -> usize
+pub(crate) fn base(out: &mut [u8], at: usize, t: Transition) -> usize
     requires { ⌜ Room at (baseBytes t) ⌝ }
     ensures { λ r. ⌜ Writes (now (out .entry)) (now (out .exit)) at (baseBytes t) r ⌝ }
 {
@@ -305,18 +306,17 @@ fn tables(s: &[u8], h: Header, f: Frame, from: u32, out: &mut [u8], at: usize) -
     }
 }
 
-// The header of the network: its size and how many transitions it has.
-fn header(out: &mut [u8], h: Header, size: u16, transitions: u8) -> usize
-    requires { ⌜ (h .conditions < 255) × (h .actions < 255) ⌝ }
-    ensures { λ r. ⌜ Writes (now (out .entry)) (now (out .exit)) 0 (headerAt h size transitions) r ⌝ }
+// The header of a network of this size and version.
+pub(crate) fn header(out: &mut [u8], h: Header, size: u16, version: u8) -> usize
+    ensures { λ r. ⌜ Writes (now (out .entry)) (now (out .exit)) 0 (headerAt h size version) r ⌝ }
 {
     let second = put_half(out, 0, size);
-    let third = put_two(out, second, 2, h.states);
+    let third = put_two(out, second, version, h.states);
     let fourth = put_two(out, third, h.units, h.programs);
     let fifth = put_two(out, fourth, h.monitors, h.start);
     let sixth = put_half(out, fifth, h.bad);
-    let last = put_two(out, sixth, h.conditions + 1, h.actions + 1);
-    put_two(out, last, transitions, h.last)
+    let last = put_two(out, sixth, h.conditions, h.actions);
+    put_two(out, last, h.transitions, h.last)
 }
 
 // How long the network is, and how many transitions are added: it is written where there is no room.
@@ -334,7 +334,13 @@ fn fill(s: &[u8], h: Header, f: Frame, from: u32, size: Spot, out: &mut [u8])
     ensures { λ _. ⌜ now (out .exit) ≡ networkBytes (now (s .entry)) ++ drop (length (networkBytes (now (s .entry)))) (now (out .entry)) ⌝ }
 {
     let n = near(h.transitions) + size.added;
-    let at = header(out, h, size.at as u16, n as u8);
+    let net = Header {
+        conditions: h.conditions + 1,
+        actions: h.actions + 1,
+        transitions: n as u8,
+        ..h
+    };
+    let at = header(out, net, size.at as u16, 2);
     tables(s, h, f, from, out, at);
 }
 
@@ -359,19 +365,19 @@ pub(crate) fn translate(s: &[u8], out: &mut [u8]) -> Translated
     Translated::Written(size.at)
 }
 
-fn near(x: u8) -> usize
+pub(crate) fn near(x: u8) -> usize
     ensures { λ r. ⌜ (r ≡ x) × (r < 256) ⌝ }
 {
     x as usize
 }
 
-fn wide(x: u8) -> u32
+pub(crate) fn wide(x: u8) -> u32
     ensures { λ r. ⌜ (r ≡ x) × (r < 256) ⌝ }
 {
     x as u32
 }
 
-fn far(x: u32) -> usize
+pub(crate) fn far(x: u32) -> usize
     ensures { λ r. ⌜ (r ≡ x) × (r < 4294967296) ⌝ }
 {
     x as usize

@@ -2,20 +2,32 @@
 // and every byte it holds afterwards. reference/CASES.md has the format of the frames and lines.
 
 ghost use mathlib.Core.Path.{_≡_};
-ghost use Prim.Native.Nat.{_≤_, _<_};
+ghost use Prim.Native.Nat.{_+_, _≤_, _<_};
 ghost use lib.ListN.{length};
 use translation::Translated;
 
 const OUT: i32 = 1;
 
 fn main() {
-    let mut input = io::large_buffer();
-    let n = io::read_full(0, &mut input);
-    run(&input[..n]);
+    let mut left: u32 = 64;
+    while 0 < left {
+        if page() {} else {
+            return;
+        }
+        left -= 1;
+    }
 }
 
-// Runs the frames one after the other.
-fn run(s: &[u8])
+// Reads a page of frames and carries it out; answers whether there was one.
+fn page() -> bool {
+    let mut input = io::large_buffer();
+    let n = io::read_full(0, &mut input);
+    script(&input[..n]);
+    0 < n
+}
+
+// Carries out the frames of a page, to the end or to a byte that begins none.
+fn script(s: &[u8])
     requires { ⌜ length (now s) ≤ 65536 ⌝ }
 {
     let mut at = 0;
@@ -24,51 +36,62 @@ fn run(s: &[u8])
     }
 }
 
-// Runs the frame at a place: the place behind it. One that is cut short prints nothing.
+// Runs the frame at a place: the place behind it. One that is cut short or of another form ends the page.
 fn frame(s: &[u8], at: usize) -> usize
     requires { ⌜ (length (now s) ≤ 65536) × (at < length (now s)) ⌝ }
     ensures { λ r. ⌜ at < r ⌝ }
 {
-    let start = at + 2;
-    let end = start + short(s, at);
+    let form = byte(s, at);
+    if (form < 2) | (3 < form) {
+        return s.len();
+    }
+    let end = at + 3 + short(s, at + 1);
     let next = end + 1 + 3 * byte(s, end);
     if next <= s.len() {
-        buffers(s, start, end, next);
+        buffers(s, at, end, next);
     }
     next
 }
 
-// Translates the sheet between two places into each buffer named behind it.
+// Translates the sheet between a frame's head and `end` into each buffer named behind it.
 fn buffers(s: &[u8], start: usize, end: usize, next: usize)
-    requires { ⌜ (start ≤ end) × (end ≤ length (now s)) × (length (now s) ≤ 65536) × (next ≤ 65536) ⌝ }
+    requires { ⌜ (start + 3 ≤ end) × (end ≤ length (now s)) × (length (now s) ≤ 65536) × (next ≤ 65536) ⌝ }
 {
+    let form = byte(s, start);
     let mut at = end + 1;
     while at < next {
-        buffer(&s[start..end], short(s, at), byte(s, at + 2));
+        buffer(form, &s[start + 3..end], short(s, at), byte(s, at + 2));
         at += 3;
     }
 }
 
-// Translates a sheet into a buffer of this length, at most 8,192, and prints a line.
-fn buffer(text: &[u8], size: usize, seed: usize)
-    requires { ⌜ seed < 256 ⌝ }
+// Translates a sheet into a buffer of this length, and prints a line.
+fn buffer(form: usize, text: &[u8], size: usize, seed: usize)
+    requires { ⌜ (size ≤ 65536) × (seed < 256) ⌝ }
 {
     let mut room = pattern(seed);
-    let n = least(size);
-    let answer = translation::translate(text, &mut room[..n]);
+    let answer = write(form, text, &mut room[..size]);
     print_answer(answer);
-    print_bytes(&room, n);
+    print_bytes(&room, size);
     print(b"\n");
 }
 
+// Translates a sheet of either form.
+fn write(form: usize, text: &[u8], out: &mut [u8]) -> Translated {
+    match form {
+        2 => translation::translate(text, out),
+        _ => translation::translate_card(text, out),
+    }
+}
+
 // What a buffer holds before the call: each byte is 7 more than the one before it.
-fn pattern(seed: usize) -> [u8; 8192]
+fn pattern(seed: usize) -> [u8; 65536]
     requires { ⌜ seed < 256 ⌝ }
-    ensures { λ r. ⌜ 8192 ≡ length r ⌝ }
+    ensures { λ r. ⌜ 65536 ≡ length r ⌝ }
 {
-    let mut room = [0u8; 8192];
+    let mut room = [0u8; 65536];
     let mut i: usize = 0;
-    while i < 8192 {
+    while i < 65536 {
         room[i] = small(seed + 7 * i);
         i += 1;
     }
@@ -83,31 +106,32 @@ fn print_answer(a: Translated) {
 }
 
 // A space and two digits for each of the first n bytes; nothing where n is 0.
-fn print_bytes(room: &[u8; 8192], n: usize)
-    requires { ⌜ n ≤ 8192 ⌝ }
+fn print_bytes(room: &[u8; 65536], n: usize)
+    requires { ⌜ n ≤ 65536 ⌝ }
 {
-    if n == 0 {
-        return;
+    if 0 < n {
+        print(b" ");
     }
-    print(b" ");
-    let text = digits(room, n);
-    print(&text[..2 * n]);
+    let mut at = 0;
+    while at < n {
+        print_piece(room, at, least(4096, n - at));
+        at += 4096;
+    }
 }
 
-// Two digits for each of the first n bytes.
-fn digits(room: &[u8; 8192], n: usize) -> [u8; 16384]
-    requires { ⌜ n ≤ 8192 ⌝ }
-    ensures { λ r. ⌜ 16384 ≡ length r ⌝ }
+// Two digits for each of n bytes from a place on.
+fn print_piece(room: &[u8; 65536], at: usize, n: usize)
+    requires { ⌜ (at + n ≤ 65536) × (n ≤ 4096) ⌝ }
 {
-    let mut text = [0u8; 16384];
+    let mut text = [0u8; 8192];
     let mut i = 0;
     while i < n {
-        let b = wide(room[i]);
+        let b = wide(room[at + i]);
         text[2 * i] = digit(b / 16);
         text[2 * i + 1] = digit(b % 16);
         i += 1;
     }
-    text
+    print(&text[..2 * n]);
 }
 
 // A digit as it is printed: 48 is `0`, and 87 is ten before `a`.
@@ -140,10 +164,10 @@ fn byte(s: &[u8], at: usize) -> usize
     if at < s.len() { wide(s[at]) } else { 0 }
 }
 
-fn least(n: usize) -> usize
-    ensures { λ r. ⌜ r ≤ 8192 ⌝ }
+fn least(a: usize, b: usize) -> usize
+    ensures { λ r. ⌜ (r ≤ a) × (r ≤ b) ⌝ }
 {
-    if n < 8192 { n } else { 8192 }
+    if a < b { a } else { b }
 }
 
 fn wide(x: u8) -> usize

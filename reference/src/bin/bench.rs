@@ -5,10 +5,11 @@
 //! instructions: `valgrind --tool=callgrind example SHEET LOG`.
 
 use reference::engine::Engine;
-use reference::network::Network;
+use reference::network::{Network, Version};
 use reference::proved::{self, numbered, Answer};
 use reference::run::{run, run_unjudged};
 use reference::sheet::Sheet;
+use reference::translate::{translate_to, CARD_BUFFER};
 use reference::workloads::{self, Workload, MONDEX_REPORTED};
 use std::ffi::OsString;
 use std::fs;
@@ -80,9 +81,10 @@ fn on_sheet(workload: &Workload) -> Times {
     timed::<Sheet>(&workload.sheet, &workload.log, proved::run)
 }
 
-fn on_network(workload: &Workload) -> Times {
-    let sheet = Sheet::read(&workload.sheet).expect("the sheet is accepted");
-    let network = sheet.translate().bytes();
+fn on_network(workload: &Workload, version: Version) -> Times {
+    let mut network = vec![0; CARD_BUFFER];
+    let length = translate_to(version, &workload.sheet, &mut network);
+    network.truncate(length.expect("the sheet has a network"));
     timed::<Network>(&network, &workload.log, proved::run_network)
 }
 
@@ -107,7 +109,9 @@ fn rates(title: &str, workloads: &[Workload]) {
     head(title, &columns);
     for workload in workloads {
         rate(workload, "sheet", &on_sheet(workload));
-        rate(workload, "network", &on_network(workload));
+        rate(workload, "network", &on_network(workload, Version::Two));
+        let card = on_network(workload, Version::Three);
+        rate(workload, "network, version 3", &card);
     }
 }
 
@@ -135,6 +139,7 @@ fn mondex() {
         "events",
         "proved, sheet",
         "proved, network",
+        "proved, version 3",
         "reference, sheet",
         "003 (a) none",
         "003 (b) S",
@@ -146,13 +151,16 @@ fn mondex() {
     );
     for (workload, (transactions, reported)) in workloads::mondex_runs().iter().zip(MONDEX_REPORTED)
     {
-        let (sheet, network) = (on_sheet(workload), on_network(workload));
-        let [own, on_network, reference] =
-            [sheet.0[0], network.0[0], sheet.0[1]].map(|seconds| format!("{:.3}", seconds * 1e3));
-        let [none, all, refined] = reported.map(|time| thousands(time.into()));
+        let [own, reference, _] = on_sheet(workload).0;
+        let [network, card] =
+            [Version::Two, Version::Three].map(|version| on_network(workload, version).0[0]);
+        let times = [own, network, card, reference].map(|s| format!("{:.3}", s * 1e3));
+        let reported = reported.map(|time| thousands(time.into()));
         println!(
-            "| {transactions} | {} | {own} | {on_network} | {reference} | {none} | {all} | {refined} |",
-            workload.events
+            "| {transactions} | {} | {} | {} |",
+            workload.events,
+            times.join(" | "),
+            reported.join(" | ")
         );
     }
 }

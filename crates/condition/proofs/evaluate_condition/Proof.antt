@@ -7,7 +7,7 @@ returns : tie.Need-returns
 returns c = condition-length _ _ (c .if1 .left)
 
 condition-requires : tie.Need-condition-requires
-condition-requires c κs = walkable 1 (c .before .before .before .before .before .before .before .before .before .args .t1 .now) (c .before .before .before .before .if1 .taken)
+condition-requires c κs = walkable (c .before .before .before .before .before .before .before .before .before .args .t1 .now) (c .before .before .before .before .if1 .taken)
 
 returns-2 : tie.Need-returns-2
 returns-2 c = condition-answer _ _ (c .before .before .before .before .before .before .if1 .taken) _ _ (c .before .condition .ensures) (c .if2 .taken)

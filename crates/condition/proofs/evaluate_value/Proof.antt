@@ -8,7 +8,7 @@ returns : tie.Need-returns
 returns c = value-length _ _ (c .if1 .left)
 
 value-requires : tie.Need-value-requires
-value-requires c κs = walkable 1 (c .before .before .before .before .before .before .before .before .before .args .t1 .now) (c .before .before .before .before .if1 .taken)
+value-requires c κs = walkable (c .before .before .before .before .before .before .before .before .before .args .t1 .now) (c .before .before .before .before .if1 .taken)
 
 returns-2 : tie.Need-returns-2
 returns-2 c = value-answer _ _ (c .before .before .before .before .before .before .if1 .taken) _ _ (c .before .value .ensures) (c .if2 .taken)

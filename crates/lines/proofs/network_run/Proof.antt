@@ -1,7 +1,8 @@
 -- `network_run` meets its contract. Assumes nothing.
 use borrow.Author.Needs.{needs}
 use native.Mathlib.Omega.{arith}
-use Rattle.lines.proofs.Printing.{written-short, written-cut, written-run, refused-run}
+use Rattle.translation.proofs.Cut.{written-short, written-cut}
+use Rattle.lines.proofs.Printing.{written-run, refused-run}
 use Rattle.lines.proofs.network_run.Statement.{statement}
 use Rattle.lines.proofs.network_run.Tie as tie
 

@@ -8,7 +8,7 @@ use Rattle.step.proofs.condition_holds.Tie as tie
 returns : tie.Need-returns
 returns c =
     let a = c .before .before .before .before .before .before .before .before .before .before .args in
-    holds-there (a .s .now) (a .index .now) (a .i) (environment (a .program .now) (a .monitor .now) (a .kept .now)) _ (c .before .before .before .before .before .number .ensures .0) (c .before .before .before .before .if1 .taken) _ (c .before .before .text-at .ensures) _ (c .before .evaluate-condition .ensures) _ (c .truth .ensures)
+    holds-there (a .s .now) (a .index .now) (a .i) (environment (a .program .now) (a .monitor .now) (a .kept .now)) _ (c .before .before .before .before .before .number .ensures .0) (c .before .before .before .before .if1 .taken) _ (c .before .before .condition-at .ensures) _ (c .before .evaluate-condition .ensures) _ (c .truth .ensures)
 
 returns-2 : tie.Need-returns-2
 returns-2 c =

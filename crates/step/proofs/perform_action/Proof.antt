@@ -7,7 +7,7 @@ use Rattle.step.proofs.perform_action.Tie as tie
 returns : tie.Need-returns
 returns c =
     let a = c .before .before .before .before .before .before .before .before .before .args in
-    acted-there (a .s .now) (a .index .now) (a .i) (a .program .now) (a .count) (a .variables) _ (c .before .before .before .before .before .before .number .ensures .0) (c .before .before .before .before .before .if1 .taken) _ (c .before .before .before .text-at .ensures) _ (c .before .perform .ensures)
+    acted-there (a .s .now) (a .index .now) (a .i) (a .program .now) (a .count) (a .variables) _ (c .before .before .before .before .before .before .number .ensures .0) (c .before .before .before .before .before .if1 .taken) _ (c .before .before .before .action-at .ensures) _ (c .before .perform .ensures)
 
 returns-2 : tie.Need-returns-2
 returns-2 c =

@@ -1,4 +1,4 @@
--- `pattern` is safe and ends: the places run from 0 to 8,191. Assumes nothing.
+-- `pattern` is safe and ends: the places run from 0 to 65,535. Assumes nothing.
 use borrow.Author.Needs.{needs}
 use mathlib.Core.Path.{_≡_}
 use Prim.Native.Nat.{_-_}
@@ -7,10 +7,10 @@ use Rattle.translation_cases.proofs.pattern.Statement.{statement}
 use Rattle.translation_cases.proofs.pattern.Tie as tie
 
 abbrev Inv-loop : tie.InvT-loop
-Inv-loop seed room₀ i₀ room i = 8192 ≡ length room
+Inv-loop seed room₀ i₀ room i = 65536 ≡ length room
 
 abbrev μ-loop : tie.MeasureT-loop
-μ-loop seed room₀ i₀ room i = 8192 - i
+μ-loop seed room₀ i₀ room i = 65536 - i
 
 pub pattern-spec : {M : Type 1} → statement M
 pattern-spec =

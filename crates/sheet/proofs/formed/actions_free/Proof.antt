@@ -1,18 +1,16 @@
 -- `formed::actions_free` meets its contract. Assumes nothing.
 use mathlib.Core.Path.{ap, _∙_}
-use Prim.Native.Nat.{ℕ, _+_}
 use borrow.Author.Needs.{needs}
-use native.Mathlib.Omega.{arith}
-use mathlib.Core.Bool.{not}
+use mathlib.Core.Bool.{not, false}
 use Rattle.condition.specs.Tree.{actionNames, isAtEntry}
 use Rattle.condition.specs.Answer.{actionWhich}
 use Rattle.sheet.specs.Decode.{textForm}
-use Rattle.sheet.proofs.Loops.{Going, going-start, going-tested, sized-next, byte-here}
+use Rattle.sheet.proofs.Loops.{Going, going-start, going-tested, sized-next}
 use Rattle.sheet.proofs.formed.actions_free.Statement.{statement}
 use Rattle.sheet.proofs.formed.actions_free.Tie as tie
 
 abbrev Inv-loop : tie.InvT-loop
-Inv-loop s at n lent ok₀ place₀ left₀ ok place left = Going (λ a. not (actionWhich (λ r. actionNames r isAtEntry) lent a)) textForm 256 n s at ok place left
+Inv-loop s at n lent ok₀ place₀ left₀ ok place left = Going (λ a. not (actionWhich (λ r. actionNames r isAtEntry) lent a)) (textForm false) 65537 n s at ok place left
 
 abbrev μ-loop : tie.MeasureT-loop
 μ-loop s at n lent ok₀ place₀ left₀ ok place left = left
@@ -25,8 +23,8 @@ loop-again c =
     sized-next _ _ _ _ _ _ _ _ _ (c .before .before .before .before .loop .inv) (c .before .before .before .loop-test .taken) _
     (ap not (c .before .action-has-entry .ensures ∙ ap (actionWhich (λ r. actionNames r isAtEntry) _) (c .before .before .text .ensures)))
     _
-    (ap (λ (m : ℕ). 1 + m) (c .number .ensures .0 ∙ byte-here (c .before .before .before .before .before .before .args .s .now) (c .before .before .before .before .loop .place)))
-    (omega arith)
+    (c .text-size .ensures .0)
+    (c .text-size .ensures .1)
 
 returns : tie.Need-returns Inv-loop μ-loop
 returns c = going-tested _ _ _ _ _ _ _ _ _ (c .before .loop .inv) (c .loop-test .left)
@@ -34,4 +32,4 @@ returns c = going-tested _ _ _ _ _ _ _ _ _ (c .before .loop .inv) (c .loop-test 
 pub actions-free-spec : {M : Type 1} → statement M
 actions-free-spec =
     tie.close
-    (tie.spec Inv-loop μ-loop loop-holds (λ c κs. search needs) (λ c κs. search needs) (λ c κs. search needs) (λ c. search needs) (λ c. search needs) (λ c. search needs) (λ c. search needs) loop-again returns)
+    (tie.spec Inv-loop μ-loop loop-holds (λ c κs. search needs) (λ c κs. search needs) (λ c κs. search needs) (λ c. search needs) (λ c. search needs) (λ c. search needs) loop-again returns)

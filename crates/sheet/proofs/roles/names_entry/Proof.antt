@@ -6,7 +6,7 @@ use Rattle.sheet.proofs.roles.names_entry.Statement.{statement}
 use Rattle.sheet.proofs.roles.names_entry.Tie as tie
 
 returns : tie.Need-returns
-returns c = (let a = c .before .before .before .before .before .before .before .args in names-there isAtEntry (a .s .now) (a .index .now) (a .conditions) (a .lent) (a .i) (c .before .before .before .before .before .wide .ensures .0) (c .before .before .before .before .if1 .taken) _ (c .before .before .place .ensures .0) _ (c .before .text .ensures) _ (c .condition-has-entry .ensures))
+returns c = (let a = c .before .before .before .before .before .before .before .args in names-there isAtEntry (a .s .now) (a .index .now) (a .conditions) (a .lent) (a .i) (c .before .before .before .before .before .wide .ensures .0) (c .before .before .before .before .if1 .taken) _ (c .before .before .place .ensures .0) _ (c .before .condition-text .ensures) _ (c .condition-has-entry .ensures))
 
 returns-2 : tie.Need-returns-2
 returns-2 c = (let a = c .before .before .before .args in names-past isAtEntry (a .s .now) (a .index .now) (a .conditions) (a .lent) (a .i) (c .before .wide .ensures .0) (c .if1 .left))

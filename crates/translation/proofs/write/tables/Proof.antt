@@ -2,7 +2,7 @@
 use borrow.Author.Needs.{needs}
 use native.Mathlib.Omega.{arith}
 use Rattle.translation.proofs.Writing.{writes-length}
-use Rattle.translation.proofs.Tabling.{places-small, conditions-at, conditions-end, actions-end, added-few, room-first, next-first, room-second, next-second, read-second, room-true, next-true, room-third, next-third, room-empty, next-empty, room-fourth, next-fourth, room-fifth, next-fifth, room-sixth, tables-done}
+use Rattle.translation.proofs.Tabling.{places-small, words-after, conditions-end, actions-end, added-few, room-first, next-first, room-second, next-second, read-second, room-true, next-true, room-third, next-third, room-empty, next-empty, room-fourth, next-fourth, room-fifth, next-fifth, room-sixth, tables-done}
 use Rattle.translation.proofs.write.tables.Statement.{statement}
 use Rattle.translation.proofs.write.tables.Tie as tie
 
@@ -23,7 +23,7 @@ texts-requires c κs =
     let at = b .args .at in
     let e = b .pre .1 in
     let g1 = next-first p o at e _ _ (c .before .before .before .before .words .ensures) in
-    let k = conditions-at p o at e _ (c .before .wide .ensures .0) in
+    let k = words-after (b .args .s .now) _ _ (c .before .wide .ensures .0) in
     (conditions-end p o at e _ k, places-small p o at e .2, room-second p o at e _ _ g1 _ k)
 
 put-two-requires : tie.Need-put-two-requires
@@ -34,7 +34,7 @@ put-two-requires c κs =
     let at = b .args .at in
     let e = b .pre .1 in
     let g1 = next-first p o at e _ _ (c .before .before .before .before .before .before .before .before .words .ensures) in
-    let k = conditions-at p o at e _ (c .before .before .before .before .before .wide .ensures .0) in
+    let k = words-after (b .args .s .now) _ _ (c .before .before .before .before .before .wide .ensures .0) in
     let g2 = next-second p o at e _ _ g1 _ k _ _ (c .before .before .before .texts .ensures) in
     room-true p o at e _ _ g2
 
@@ -46,7 +46,7 @@ texts-requires-2 c κs =
     let at = b .args .at in
     let e = b .pre .1 in
     let g1 = next-first p o at e _ _ (c .before .before .before .before .before .before .before .before .before .before .before .before .words .ensures) in
-    let k = conditions-at p o at e _ (c .before .before .before .before .before .before .before .before .before .wide .ensures .0) in
+    let k = words-after (b .args .s .now) _ _ (c .before .before .before .before .before .before .before .before .before .wide .ensures .0) in
     let g2 = next-second p o at e _ _ g1 _ k _ _ (c .before .before .before .before .before .before .before .texts .ensures) in
     let g3 = next-true p o at e _ _ g2 _ _ (c .before .before .before .put-two .ensures) in
     let m = read-second p o at e _ _ g1 _ k _ _ (c .before .before .before .before .before .before .before .texts .ensures) in
@@ -60,7 +60,7 @@ put-requires c κs =
     let at = b .args .at in
     let e = b .pre .1 in
     let g1 = next-first p o at e _ _ (c .before .before .before .before .before .before .before .before .before .before .before .before .before .before .before .before .words .ensures) in
-    let k = conditions-at p o at e _ (c .before .before .before .before .before .before .before .before .before .before .before .before .before .wide .ensures .0) in
+    let k = words-after (b .args .s .now) _ _ (c .before .before .before .before .before .before .before .before .before .before .before .before .before .wide .ensures .0) in
     let g2 = next-second p o at e _ _ g1 _ k _ _ (c .before .before .before .before .before .before .before .before .before .before .before .texts .ensures) in
     let g3 = next-true p o at e _ _ g2 _ _ (c .before .before .before .before .before .before .before .put-two .ensures) in
     let m = read-second p o at e _ _ g1 _ k _ _ (c .before .before .before .before .before .before .before .before .before .before .before .texts .ensures) in
@@ -75,7 +75,7 @@ transitions-requires c κs =
     let at = b .args .at in
     let e = b .pre .1 in
     let g1 = next-first p o at e _ _ (c .before .before .before .before .before .before .before .before .before .before .before .before .before .before .before .before .before .before .before .before .words .ensures) in
-    let k = conditions-at p o at e _ (c .before .before .before .before .before .before .before .before .before .before .before .before .before .before .before .before .before .wide .ensures .0) in
+    let k = words-after (b .args .s .now) _ _ (c .before .before .before .before .before .before .before .before .before .before .before .before .before .before .before .before .before .wide .ensures .0) in
     let g2 = next-second p o at e _ _ g1 _ k _ _ (c .before .before .before .before .before .before .before .before .before .before .before .before .before .before .before .texts .ensures) in
     let g3 = next-true p o at e _ _ g2 _ _ (c .before .before .before .before .before .before .before .before .before .before .before .put-two .ensures) in
     let m = read-second p o at e _ _ g1 _ k _ _ (c .before .before .before .before .before .before .before .before .before .before .before .before .before .before .before .texts .ensures) in
@@ -91,7 +91,7 @@ states-requires c κs =
     let at = b .args .at in
     let e = b .pre .1 in
     let g1 = next-first p o at e _ _ (c .before .before .before .before .before .before .before .before .before .before .before .before .before .before .before .before .before .before .before .before .before .before .before .before .words .ensures) in
-    let k = conditions-at p o at e _ (c .before .before .before .before .before .before .before .before .before .before .before .before .before .before .before .before .before .before .before .before .before .wide .ensures .0) in
+    let k = words-after (b .args .s .now) _ _ (c .before .before .before .before .before .before .before .before .before .before .before .before .before .before .before .before .before .before .before .before .before .wide .ensures .0) in
     let g2 = next-second p o at e _ _ g1 _ k _ _ (c .before .before .before .before .before .before .before .before .before .before .before .before .before .before .before .before .before .before .before .texts .ensures) in
     let g3 = next-true p o at e _ _ g2 _ _ (c .before .before .before .before .before .before .before .before .before .before .before .before .before .before .before .put-two .ensures) in
     let m = read-second p o at e _ _ g1 _ k _ _ (c .before .before .before .before .before .before .before .before .before .before .before .before .before .before .before .before .before .before .before .texts .ensures) in
@@ -108,7 +108,7 @@ templates-requires c κs =
     let at = b .args .at in
     let e = b .pre .1 in
     let g1 = next-first p o at e _ _ (c .before .before .before .before .before .before .before .before .before .before .before .before .before .before .before .before .before .before .before .before .before .before .before .before .before .before .before .before .words .ensures) in
-    let k = conditions-at p o at e _ (c .before .before .before .before .before .before .before .before .before .before .before .before .before .before .before .before .before .before .before .before .before .before .before .before .before .wide .ensures .0) in
+    let k = words-after (b .args .s .now) _ _ (c .before .before .before .before .before .before .before .before .before .before .before .before .before .before .before .before .before .before .before .before .before .before .before .before .before .wide .ensures .0) in
     let g2 = next-second p o at e _ _ g1 _ k _ _ (c .before .before .before .before .before .before .before .before .before .before .before .before .before .before .before .before .before .before .before .before .before .before .before .texts .ensures) in
     let g3 = next-true p o at e _ _ g2 _ _ (c .before .before .before .before .before .before .before .before .before .before .before .before .before .before .before .before .before .before .before .put-two .ensures) in
     let m = read-second p o at e _ _ g1 _ k _ _ (c .before .before .before .before .before .before .before .before .before .before .before .before .before .before .before .before .before .before .before .before .before .before .before .texts .ensures) in
@@ -126,7 +126,7 @@ returns c =
     let at = b .args .at in
     let e = b .pre .1 in
     let g1 = next-first p o at e _ _ (c .before .before .before .before .before .before .before .before .before .before .before .before .before .before .before .before .before .before .before .before .before .before .before .before .before .before .before .before .before .before .before .words .ensures) in
-    let k = conditions-at p o at e _ (c .before .before .before .before .before .before .before .before .before .before .before .before .before .before .before .before .before .before .before .before .before .before .before .before .before .before .before .before .wide .ensures .0) in
+    let k = words-after (b .args .s .now) _ _ (c .before .before .before .before .before .before .before .before .before .before .before .before .before .before .before .before .before .before .before .before .before .before .before .before .before .before .before .before .wide .ensures .0) in
     let g2 = next-second p o at e _ _ g1 _ k _ _ (c .before .before .before .before .before .before .before .before .before .before .before .before .before .before .before .before .before .before .before .before .before .before .before .before .before .before .texts .ensures) in
     let g3 = next-true p o at e _ _ g2 _ _ (c .before .before .before .before .before .before .before .before .before .before .before .before .before .before .before .before .before .before .before .before .before .before .put-two .ensures) in
     let m = read-second p o at e _ _ g1 _ k _ _ (c .before .before .before .before .before .before .before .before .before .before .before .before .before .before .before .before .before .before .before .before .before .before .before .before .before .before .texts .ensures) in
