@@ -6,7 +6,8 @@ use Prim.Native.Nat.{ℕ, suc, _+_, _-_, _≤_, _<_}
 use native.Mathlib.Omega.{arith}
 use borrow.Author.Tests.{le-leb, not-true}
 use lib.Dec.{leb}
-use lib.ListN.{length, getD, length-append, length-map}
+use lib.Seq.{getD-append-add}
+use lib.ListN.{length, getD, length-append, length-map, List·getD-append}
 use Rattle.condition.specs.Tree.{Condition, always, negation, both, either, less, equal, within, conditionBytes, conditionNames, actionNames, isAtEntry}
 use Rattle.condition.specs.Parse.{parseCondition, conditionFrom, conditionOperator}
 use Rattle.condition.specs.Answer.{sized, whether, conditionWhich, actionWhich}
@@ -21,12 +22,11 @@ use Rattle.sheet.proofs.Tests.{and-iff, leb-iff, eqb-iff, not-iff}
 use Rattle.sheet.proofs.Tables.{and-parts, and-both, every-append, every-map, every-weaker, every-or}
 use Rattle.sheet.proofs.Accepted.{condition-formed}
 use Rattle.step.proofs.Keeping.{every-among, among-every}
+use Rattle.translation.proofs.Networks.{every-two}
+use Rattle.translation.proofs.Joining.{length-joined}
+use Rattle.translation.proofs.Guarding.{length-guarded}
 use Rattle.translation.specs.Card.{joinedText, joinedFrom, guardedBy, guardedFrom, joinedConditions, withConditions, separated}
 use Rattle.agreement.proofs.Joined.{Says, says-parses, joins}
-use Rattle.agreement.proofs.Separate.{getD-front, getD-behind}
-
-every-two : {A : Type 0} (p q : A → Bool) (l : List A) → every p l ≡ true → every q l ≡ true → every (λ x. p x && q x) l ≡ true
-every-two p q l h k = among-every (λ x. p x && q x) l (λ x m. and-both (every-among p l x h m) (every-among q l x k m))
 
 bytes-some : (c : Condition) → 1 ≤ length (conditionBytes c)
 unfolding conditionBytes
@@ -37,16 +37,6 @@ bytes-some (either c d) = omega arith
 bytes-some (less e f) = omega arith
 bytes-some (equal e f) = omega arith
 bytes-some (within e f g) = omega arith
-
-length-new : (C : Common) (e l : List Transition) → length (joinedFrom C e l) ≡ length l
-unfolding joinedFrom
-length-new C e [] = refl
-length-new C e (t ∷ l) = ap suc (length-new C (e ++ t ∷ []) l)
-
-length-guarded : (i : ℕ) (l : List Paired) → length (guardedFrom i l) ≡ length l
-unfolding guardedFrom
-length-guarded i [] = refl
-length-guarded i (t ∷ l) = ap suc (length-guarded (suc i) l)
 
 guarded-every : (p q : Paired → Bool) (low high : ℕ) → ((j : ℕ) (t : Paired) → low ≤ j → j < high → p t ≡ true → q (guardedBy j t) ≡ true)
     → (i : ℕ) (l : List Paired) → low ≤ i → i + length l ≤ high → every p l ≡ true → every q (guardedFrom i l) ≡ true
@@ -119,7 +109,7 @@ module _ (N : Network) (h : admitted false N ≡ true) (fits : every (λ t. leb 
 
   long : length (withConditions (N .common) (joinedConditions N) .conditions) ≡ length (N .common .conditions) + length (N .transitions)
   unfolding withConditions
-  long = length-append (C .conditions) new ∙ ap (λ n. length (C .conditions) + n) (length-new C [] (bases N) ∙ length-map (N .transitions) (λ (t : Paired). t .base))
+  long = length-append (C .conditions) new ∙ ap (λ n. length (C .conditions) + n) (length-joined C [] (bases N) ∙ length-map (N .transitions) (λ (t : Paired). t .base))
 
   -- 3
   joined-counts : withinCounts true (separated N) ≡ true
@@ -201,12 +191,12 @@ module _ (N : Network) (h : admitted false N ≡ true) (fits : every (λ t. leb 
   guard-quiet j low =
       let k = j - length (C .conditions) in
       let at : length (C .conditions) + k ≡ j = omega arith in
-      subst (λ (x : List ℕ). not (namesEntry C x) ≡ true) (sym (ap (λ i. getD (C .conditions ++ new) i (0 ∷ [])) (sym at) ∙ getD-behind (C .conditions) new (0 ∷ []) k))
+      subst (λ (x : List ℕ). not (namesEntry C x) ≡ true) (sym (ap (λ i. getD (C .conditions ++ new) i (0 ∷ [])) (sym at) ∙ getD-append-add (C .conditions) new k (0 ∷ [])))
       (every-or (λ t. not (namesEntry C t)) new k (0 ∷ []) (quiet-new C is-formed [] (bases N) refl guards-quiet) (ap not names-nothing))
 
   pair-well : (p : Pair) → p .condition < length (N .common .conditions) → usedWell (N .common) (record { number = p .condition; role = precondition }) ≡ true → usedWell (withConditions (N .common) (joinedConditions N)) (record { number = p .condition; role = precondition }) ≡ true
   unfolding withConditions
-  pair-well p h u = rw (getD-front (C .conditions) new (0 ∷ []) (p .condition) h) u
+  pair-well p h u = rw (List·getD-append (C .conditions) new (0 ∷ []) (p .condition) h) u
 
   uses-well : (j : ℕ) (t : Paired) → length (N .common .conditions) ≤ j → j < length (withConditions (N .common) (joinedConditions N) .conditions)
       → (networkLayout .transitionRanged (N .common) (N .templates) t && every (usedWell (N .common)) (networkLayout .transitionUses t)) ≡ true
@@ -225,7 +215,7 @@ module _ (N : Network) (h : admitted false N ≡ true) (fits : every (λ t. leb 
 
   template-well : (t : Template) → t .postcondition < length (N .common .conditions) → every (usedWell (N .common)) (networkLayout .lastUses t) ≡ true → every (usedWell (withConditions (N .common) (joinedConditions N))) (networkLayout .lastUses t) ≡ true
   unfolding withConditions every
-  template-well t h u = rw (getD-front (C .conditions) new (0 ∷ []) (t .postcondition) h) u
+  template-well t h u = rw (List·getD-append (C .conditions) new (0 ∷ []) (t .postcondition) h) u
 
   rangedParts : ranged networkLayout (N .common) (N .transitions) (N .templates) ≡ true → (every (networkLayout .transitionRanged (N .common) (N .templates)) (N .transitions) && every (networkLayout .lastRanged (N .common)) (N .templates)) ≡ true
   unfolding ranged

@@ -1,15 +1,15 @@
 -- What a joined condition parses to, and when it holds. Assumes nothing.
 use mathlib.Core.Path.{_≡_, refl, sym, ap₂}
 use mathlib.Core.Logic.{inl, inr}
-use mathlib.Core.Bool.{Bool, true, false, not, cond, _&&_, false≢true}
-use mathlib.Core.Option.{Option, none, some}
+use mathlib.Core.Bool.{Bool, true, false, not, cond, _&&_}
+use mathlib.Core.Option.{none, some}
 use mathlib.Core.List.{List, [], _∷_, _++_}
 use Prim.Native.Nat.{ℕ}
 use Rattle.condition.specs.declared.Lent.{Lent}
 use Rattle.condition.specs.Tree.{Variable, Condition, negation, both, conditionBytes, conditionNames}
 use Rattle.condition.specs.Parse.{parseCondition}
 use Rattle.condition.specs.Meaning.{Environment, holds}
-use Rattle.condition.specs.Answer.{sized, whether, conditionWhich}
+use Rattle.condition.specs.Answer.{sized, conditionWhich}
 use Rattle.condition.proofs.Parsing.{unlent, condition-whole, parse-lent, parse-bytes}
 use Rattle.sheet.specs.declared.Transition.{Transition}
 use Rattle.sheet.specs.Parts.{Common}
@@ -17,13 +17,9 @@ use Rattle.sheet.specs.Reading.{lentIn, conditionIn, formed}
 use Rattle.sheet.proofs.Accepted.{condition-formed}
 use Rattle.step.specs.Lists.{any}
 use Rattle.step.specs.Meets.{meets}
+use Rattle.step.proofs.Bridge.{parses}
 use Rattle.step.proofs.Lists.{Among}
 use Rattle.translation.specs.Card.{isOf, joinedText}
-
-parses : {A : Type 0} (b : Bool) (x : Option A) → (b && whether x (λ _. true)) ≡ true → (a : A) × (x ≡ some a)
-parses true none e = absurd (false≢true e)
-parses true (some a) e = (a, refl)
-parses false x e = absurd (false≢true e)
 
 -- Some bytes are those of a tree that names what is lent.
 pub record Says (L : Lent) (t : List ℕ) (c : Condition) : Type 0 where
@@ -43,7 +39,7 @@ module _ (C : Common) (f : formed C ≡ true) where
   pub said : (i : ℕ) → (c : Condition) × Says (lentIn C) (conditionIn C i) c
   unfolding conditionWhich
   said i =
-      let (c, h) = parses (sized (conditionIn C i)) (parseCondition (lentIn C) (conditionIn C i)) (condition-formed C f i) in
+      let (c, z, h) = parses (sized (conditionIn C i)) (parseCondition (lentIn C) (conditionIn C i)) (condition-formed C f i) in
       (c, record { bytes = condition-whole (lentIn C) (conditionIn C i) h; lent = parse-lent (lentIn C) (conditionIn C i) h })
 
   said-meets : (i : ℕ) (c : Condition) → Says (lentIn C) (conditionIn C i) c → (E : Environment) → meets C i E ≡ holds c E

@@ -14,3 +14,4 @@ pub mod Separate
 pub mod Realising
 pub mod Admitting
 pub mod Card
+pub mod Rows

@@ -3,12 +3,12 @@ use mathlib.Core.Path.{_≡_, refl, ap, _∙_}
 use mathlib.Core.Bool.{Bool, true, false, not, cond, _&&_}
 use mathlib.Core.Option.{none}
 use mathlib.Core.List.{List, [], _∷_, _++_, map}
-use Prim.Native.Nat.{ℕ, zero, suc, _+_, _≤_, _<_}
+use Prim.Native.Nat.{ℕ, suc, _+_, _≤_, _<_}
 use native.Mathlib.Omega.{arith}
-use native.Mathlib.Nat.{le-of-suc-le-suc}
 use borrow.Author.Tests.{eqb-true}
 use lib.Dec.{eqb}
-use lib.ListN.{length, getD}
+use lib.Seq.{getD-append-add}
+use lib.ListN.{length, getD, List·getD-append}
 use Rattle.condition.specs.Parse.{parseCondition}
 use Rattle.condition.specs.Meaning.{Environment, holds}
 use Rattle.condition.specs.Answer.{whether}
@@ -16,35 +16,19 @@ use Rattle.sheet.specs.declared.Transition.{Transition}
 use Rattle.sheet.specs.Parts.{Common, Paired, Network}
 use Rattle.sheet.specs.Reading.{lentIn, conditionIn, formed}
 use Rattle.step.specs.Lists.{keep, any}
+use Rattle.step.proofs.Turns.{any-append}
 use Rattle.step.specs.Meets.{meets}
 use Rattle.translation.specs.Card.{isOf, joinedText, joinedFrom, guardedBy, guardedFrom, joinedConditions, withConditions}
 use Rattle.agreement.specs.Card.{holdsFor}
 use Rattle.agreement.proofs.Joined.{says-parses, joins}
 
--- Looking up in front of a seam, and behind it.
-pub getD-front : {A : Type 0} (l m : List A) (d : A) (i : ℕ) → i < length l → getD (l ++ m) i d ≡ getD l i d
-getD-front [] m d i h = absurd (omega arith)
-getD-front (x ∷ l) m d zero h = refl
-getD-front (x ∷ l) m d (suc i) h = getD-front l m d i (le-of-suc-le-suc h)
-
-pub getD-behind : {A : Type 0} (l m : List A) (d : A) (j : ℕ) → getD (l ++ m) (length l + j) d ≡ getD m j d
-getD-behind [] m d j = ap (λ k. getD m k d) (omega arith)
-getD-behind (x ∷ l) m d j =
-    let e : suc (length l) + j ≡ suc (length l + j) = omega arith in
-    ap (λ k. getD (x ∷ (l ++ m)) k d) e ∙ getD-behind l m d j
-
 any-more : {A : Type 0} (p : A → Bool) (l : List A) (x : A) → any p (l ++ x ∷ []) ≡ cond (any p l) true (p x)
 unfolding any
-any-more p [] x = go (p x)
+any-more p l x = any-append p l (x ∷ []) ∙ ap (cond (any p l) true) (go (p x))
   where
     go : (b : Bool) → cond b true false ≡ b
     go true = refl
     go false = refl
-any-more p (y ∷ l) x = go (p y) (any-more p l x)
-  where
-    go : (b : Bool) → any p (l ++ x ∷ []) ≡ cond (any p l) true (p x) → cond b true (any p (l ++ x ∷ [])) ≡ cond (cond b true (any p l)) true (p x)
-    go true h = refl
-    go false h = h
 
 any-same : {A : Type 0} (p q : A → Bool) → ((x : A) → p x ≡ q x) → (l : List A) → any p l ≡ any q l
 unfolding any
@@ -73,7 +57,7 @@ module _ (N : Network) (f : formed (N .common) ≡ true) where
 
   pub meets-old : (i : ℕ) (E : Environment) → i < length (N .common .conditions) → meets (withConditions (N .common) (joinedConditions N)) i E ≡ meets (N .common) i E
   unfolding meets withConditions
-  meets-old i E h = ap (λ (t : List ℕ). whether (parseCondition (lentIn C) t) (λ c. holds c E)) (getD-front (C .conditions) (joinedConditions N) (0 ∷ []) i h)
+  meets-old i E h = ap (λ (t : List ℕ). whether (parseCondition (lentIn C) t) (λ c. holds c E)) (List·getD-append (C .conditions) (joinedConditions N) (0 ∷ []) i h)
 
   module _ (state kind unit : ℕ) (E : Environment) where
     abbrev p : Transition → Bool
@@ -140,4 +124,4 @@ module _ (N : Network) (f : formed (N .common) ≡ true) where
     pub first-only : map plain (keep (λ (t : Paired). holdsFor (withConditions (N .common) (joinedConditions N)) state kind unit E (t .base)) (guardedFrom (length (N .common .conditions)) (N .transitions)))
         ≡ only (map plain (keep (λ (t : Paired). holdsFor (N .common) state kind unit E (t .base)) (N .transitions)))
     unfolding withConditions any
-    first-only = kept-new (N .transitions) [] (length (C .conditions)) (λ j. getD-behind (C .conditions) (joinedConditions N) (0 ∷ []) j)
+    first-only = kept-new (N .transitions) [] (length (C .conditions)) (λ j. getD-append-add (C .conditions) (joinedConditions N) j (0 ∷ []))

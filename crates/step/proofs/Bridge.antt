@@ -41,7 +41,7 @@ record Runs (L : Lent) (t : List ℕ) (r : List Assignment) : Type 0 where
   fits : actionSized t ≡ true
   tree : parseAction L t ≡ some r
 
-parses : {A : Type 0} (b : Bool) (x : Option A) → (b && whether x (λ _. true)) ≡ true → (a : A) × (b ≡ true) × (x ≡ some a)
+pub parses : {A : Type 0} (b : Bool) (x : Option A) → (b && whether x (λ _. true)) ≡ true → (a : A) × (b ≡ true) × (x ≡ some a)
 parses true none e = absurd (false≢true e)
 parses true (some a) e = (a, refl, refl)
 parses false x e = absurd (false≢true e)

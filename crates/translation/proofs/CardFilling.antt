@@ -2,7 +2,7 @@
 use mathlib.Core.Path.{_≡_, refl, sym, ap, _∙_}
 use mathlib.Core.Bool.{Bool, true, false, cond, _&&_}
 use mathlib.Core.List.{List, [], _∷_, _++_}
-use Prim.Native.Nat.{ℕ, suc, _+_, _≤_, _<_}
+use Prim.Native.Nat.{ℕ, _+_, _≤_, _<_}
 use native.Mathlib.Omega.{arith}
 use borrow.Author.Tests.{le-leb, lt-leb}
 use lib.Dec.{leb}
@@ -20,7 +20,6 @@ use Rattle.sheet.specs.Encode.{halfBytes, tableBytes, headerBytes, encode}
 use Rattle.sheet.specs.Reading.{reading, sheetLayout, networkLayout}
 use Rattle.sheet.specs.Answer.{answer, headerOf, placesOf}
 use Rattle.sheet.proofs.Accepted.{accepted, reading-accepted}
-use Rattle.sheet.proofs.Answers.{answer-refused}
 use Rattle.sheet.proofs.Encoding.{encode-wide}
 use Rattle.sheet.proofs.Tables.{length-records}
 use Rattle.translation.specs.declared.Translated.{Translated}
@@ -29,15 +28,17 @@ use Rattle.translation.specs.Translate.{translate}
 use Rattle.translation.specs.Card.{joinedConditions, guardedFrom, withConditions, separated, card}
 use Rattle.translation.specs.Answer.{networkBytes, translatedWith, bufferWith, translatedOf, cardBytes, cardFits, cardRefusal, cardOf, cardBufferOf}
 use Rattle.translation.specs.Walk.{Writes, headerAt}
-use Rattle.translation.specs.CardWalk.{Opened, separatedBytes, joinedShort, separateRefusal}
+use Rattle.translation.specs.CardWalk.{PreparedNetwork, separatedBytes, joinedShort, separateRefusal}
 use Rattle.translation.proofs.Networks.{translate-accepted, translate-decodes}
-use Rattle.translation.proofs.Filling.{asTranslated}
-use Rattle.translation.proofs.CardTabling.{length-joined, total}
+use Rattle.translation.proofs.Filling.{unread-with}
+use Rattle.translation.proofs.Joining.{length-joined}
+use Rattle.translation.proofs.Guarding.{length-guarded}
+use Rattle.translation.proofs.CardTabling.{total}
 use Rattle.translation.proofs.Cut.{refused-reading}
 use Rattle.translation.proofs.Writing.{writes-then}
 
 -- what reading the network's bytes leaves behind
-pub opened-with : (n : List ℕ) → reading networkLayout n ≡ 0 → wide n ≡ false → (h : Header) → h ≡ headerOf n → (q : Places) → q ≡ placesOf networkLayout n → Opened n h (q .conditions) (q .transitions) (q .last)
+pub opened-with : (n : List ℕ) → reading networkLayout n ≡ 0 → wide n ≡ false → (h : Header) → h ≡ headerOf n → (q : Places) → q ≡ placesOf networkLayout n → PreparedNetwork n h (q .conditions) (q .transitions) (q .last)
 opened-with n a w h eh q eq = record { network = record { accepted = a; narrow = w; places = rw eq; from = rw eq }; header = eh; templates = rw eq }
 
 -- the header of the card's network
@@ -56,12 +57,7 @@ cardHeader h =
       last = h .last;
     }
 
-length-guarded : (i : ℕ) (l : List Paired) → length (guardedFrom i l) ≡ length l
-unfolding guardedFrom
-length-guarded i [] = refl
-length-guarded i (t ∷ l) = ap suc (length-guarded (suc i) l)
-
-module _ {n : List ℕ} {h : Header} {index : List ℕ} {from last : ℕ} (p : Opened n h index from last) where
+module _ {n : List ℕ} {h : Header} {index : List ℕ} {from last : ℕ} (p : PreparedNetwork n h index from last) where
   abbrev M : Network
   M = separated (networkOf n)
 
@@ -79,7 +75,7 @@ module _ {n : List ℕ} {h : Header} {index : List ℕ} {from last : ℕ} (p : O
       let long = length-records (textForm (wide n)) (conditionsIn n) (drop (conditionsAt n) n) in
       let many = length-records pairedForm (transitionsIn n) (drop (transitionsAt n) n) in
       let conditions : conditionsIn n + transitionsIn n ≡ length (C .conditions ++ joinedConditions (networkOf n)) =
-      omega (arith, length-append (C .conditions) (joinedConditions (networkOf n)), length-joined p [] (bases (networkOf n)), length-map (table pairedForm (transitionsIn n) n (transitionsAt n)) (λ (t : Paired). t .base), long, many) in
+      omega (arith, length-append (C .conditions) (joinedConditions (networkOf n)), length-joined (commonOf n) [] (bases (networkOf n)), length-map (table pairedForm (transitionsIn n) n (transitionsAt n)) (λ (t : Paired). t .base), long, many) in
       let actions : actionsIn n ≡ length (C .actions) = sym (length-records (textForm false) (actionsIn n) (drop (actionsAt n) n)) in
       let transitions : transitionsIn n ≡ length (guardedFrom (length (C .conditions)) (table pairedForm (transitionsIn n) n (transitionsAt n))) = sym (length-guarded (length (C .conditions)) (table pairedForm (transitionsIn n) n (transitionsAt n)) ∙ many) in
       let templates : lastIn n ≡ length (table templateForm (lastIn n) n (lastAt pairedForm n)) = sym (length-records templateForm (lastIn n) (drop (lastAt pairedForm n) n)) in
@@ -158,6 +154,4 @@ module _ (s : List ℕ) (a : reading sheetLayout s ≡ 0) where
 -- Where the sheet is refused.
 pub card-unread : (s o : List ℕ) (r : Reading) → r ≡ answer (reading sheetLayout s) → (n : ℕ) → r ≡ reading.Refused n → (Refused n ≡ cardOf s o) × (o ≡ cardBufferOf s o)
 unfolding cardOf cardBufferOf cardRefusal
-card-unread s o r er n h =
-    let (k, f, e) = answer-refused (reading sheetLayout s) r er n h in
-    rw f (ap asTranslated e, refl)
+card-unread s o r er n h = unread-with s o (cardBytes s) _ r er n h

@@ -19,11 +19,11 @@ use Rattle.sheet.proofs.Accepted.{tables-end}
 use Rattle.translation.specs.declared.write.Both.{Both}
 use Rattle.translation.specs.Card.{joinedFrom, joinedConditions, guardedFrom, withConditions, separated}
 use Rattle.translation.specs.Walk.{Room, Writes, WritesTexts, textsAt}
-use Rattle.translation.specs.CardWalk.{Narrow, Opened, WritesWide}
+use Rattle.translation.specs.CardWalk.{Narrow, PreparedNetwork, WritesWide}
 use Rattle.translation.proofs.Networks.{take-most}
 use Rattle.translation.proofs.Records.{texts-written, templates-written}
 use Rattle.translation.proofs.Reaching.{network, network-short, few-conditions, few-transitions, transitions-end}
-use Rattle.translation.proofs.Joining.{joined-most}
+use Rattle.translation.proofs.Joining.{length-joined, joined-most}
 use Rattle.translation.proofs.Writing.{Writing, writing-start, writing-room, writing-next, writing-last, written-append}
 
 -- How long records are when they are written, from how long they were: each at most d bytes longer.
@@ -55,7 +55,7 @@ guarded-extent i (suc n) s =
     let ps = records pairForm (byte s 6) (drop 7 s) in
     omega (arith, length-append (written pairBytes ps) (written pairedBytes (guardedFrom (suc i) (records pairedForm n rest))), pairs-length ps, length-records pairForm (byte s 6) (drop 7 s), guarded-extent (suc i) n rest)
 
-module _ {n : List ℕ} {h : Header} {index : List ℕ} {from last : ℕ} (p : Opened n h index from last) where
+module _ {n : List ℕ} {h : Header} {index : List ℕ} {from last : ℕ} (p : PreparedNetwork n h index from last) where
   abbrev N : Narrow n index from
   N = p .network
 
@@ -154,18 +154,13 @@ module _ {n : List ℕ} {h : Header} {index : List ℕ} {from last : ℕ} (p : O
   joined-few e (u ∷ l) h t zero k f = rw f (omega (arith, joined-most N 0 u [] 0 e))
   joined-few e (u ∷ l) h t (suc i) k f = joined-few (e ++ u ∷ []) l (omega (arith, length-append e (u ∷ []))) t i (omega arith) f
 
-  pub length-joined : (e l : List Transition) → length (joinedFrom (commonOf n) e l) ≡ length l
-  unfolding joinedFrom
-  length-joined e [] = refl
-  length-joined e (t ∷ l) = ap suc (length-joined (e ++ t ∷ []) l)
-
   third-most : length (written (textBytes true) (joinedConditions (networkOf n))) ≤ 96 * 6402
   unfolding networkOf
   third-most =
       let bs = map (λ (t : Paired). t .base) (table pairedForm (transitionsIn n) n (transitionsAt n)) in
       let long : length bs ≡ transitionsIn n = length-map (table pairedForm (transitionsIn n) n (transitionsAt n)) (λ (t : Paired). t .base) ∙ length-records pairedForm (transitionsIn n) (drop (transitionsAt n) n) in
       let most = written-most 6400 (joinedFrom (commonOf n) [] bs) (joined-few [] bs (omega (arith, long, few-transitions N))) in
-      omega (arith, most, length-joined [] bs, long, few-transitions N)
+      omega (arith, most, length-joined (commonOf n) [] bs, long, few-transitions N)
 
   pub total : 14 + length (tableBytes true (separated (networkOf n))) ≤ 900000
   total =

@@ -6,7 +6,7 @@ use Prim.Native.Nat.{ℕ, suc, _+_, _-_, _≤_, _<_}
 use native.Mathlib.Numerals.{add-one}
 use native.Mathlib.Omega.{arith}
 use lib.ListN.{length, getD, take, drop}
-use lib.Seq.{drop-cons, drop-drop, take-add, take-all}
+use lib.Seq.{drop-cons, drop-drop, take-add, take-length}
 use Rattle.sheet.specs.Bytes.{byte}
 use Rattle.sheet.specs.Table.{extent, after}
 use Rattle.sheet.specs.Decode.{textForm}
@@ -51,10 +51,10 @@ module _ (s : List ℕ) (from n : ℕ) (o : List ℕ) (at : ℕ) where
 
 -- all of some bytes
 pub whole-room : (at : ℕ) (l m : List ℕ) → l ≡ m → length m ≤ 1000000 → Room at m → (0 + length l ≤ length l) × (0 + length l ≤ 1000000) × Room at (take (length l) l)
-whole-room at l m e h r = rw (e, take-all (length m) m (omega arith)) (omega arith, omega arith, r)
+whole-room at l m e h r = rw (e, take-length m) (omega arith, omega arith, r)
 
 pub whole-writes : (l m : List ℕ) → l ≡ m → {o q : List ℕ} {at r : ℕ} → Writes o q at (take (length l) l) r → Writes o q at m r
-whole-writes l m e w = rw (e, take-all (length m) m (omega arith)) at w
+whole-writes l m e w = rw (e, take-length m) at w
 
 -- `left` texts are to be written, from `place` on.
 pub record WritingTexts (s : List ℕ) (from n : ℕ) (o : List ℕ) (at : ℕ) (out : List ℕ) (left place here : ℕ) : Type 0 where

@@ -13,7 +13,7 @@ use Rattle.sheet.specs.declared.Reading.{Reading}
 use Rattle.sheet.specs.declared.Reading.the-variants as reading
 use Rattle.sheet.specs.Decode.{wide, textForm, transitionForm, conditionsIn, actionsIn, transitionsIn, conditionsAt, actionsAt, transitionsAt, commonOf, sheetOf}
 use Rattle.sheet.specs.Encode.{tableBytes, headerBytes, encode}
-use Rattle.sheet.specs.Reading.{reading, sheetLayout}
+use Rattle.sheet.specs.Reading.{orElse, reading, sheetLayout}
 use Rattle.sheet.specs.Answer.{answer, headerOf, placesOf}
 use Rattle.sheet.proofs.Accepted.{Accepted, accepted, bounds}
 use Rattle.sheet.proofs.Answers.{answer-refused}
@@ -23,7 +23,7 @@ use Rattle.translation.specs.declared.Translated.the-variants.{Written, 
 use Rattle.translation.specs.declared.write.Frame.{Frame}
 use Rattle.translation.specs.declared.write.Spot.{Spot}
 use Rattle.translation.specs.Translate.{added, translate}
-use Rattle.translation.specs.Answer.{networkBytes, translateRefusal, translatedOf, bufferOf}
+use Rattle.translation.specs.Answer.{networkBytes, translateRefusal, translatedWith, bufferWith, translatedOf, bufferOf}
 use Rattle.translation.specs.Walk.{Prepared, Measures, Writes, WritesTables, tablesAt, headerAt}
 use Rattle.translation.proofs.Counting.{added-length}
 use Rattle.translation.proofs.Networks.{translate-longest}
@@ -90,7 +90,7 @@ module _ {s : List ℕ} {h : Header} {f : Frame} {from : ℕ} (p : Prepared s h 
       both .all ∙ ap (sets o 0) net ∙ sets-eq (encode false N) o 0 (omega arith) ∙ ap (λ (k : ℕ). encode false N ++ drop k o) none
 
 -- What translating answers, and the buffer.
-abbrev pub asTranslated : Reading → Translated
+abbrev asTranslated : Reading → Translated
 asTranslated reading.Accepted = Written 0
 asTranslated (reading.Refused n) = Refused n
 
@@ -108,8 +108,13 @@ module _ (s o : List ℕ) where
         let t = le-leb (length (networkBytes s)) (length o) (omega arith) in
         rw (a, t, e) (refl, f)
 
-  pub unread : (r : Reading) → r ≡ answer (reading sheetLayout s) → (n : ℕ) → r ≡ reading.Refused n → (Refused n ≡ translatedOf s o) × (o ≡ bufferOf s o)
-  unfolding translatedOf bufferOf translateRefusal
-  unread r er n h =
-      let (k, f, e) = answer-refused (reading sheetLayout s) r er n h in
-      rw f (ap asTranslated e, refl)
+-- Where the sheet is refused, in either form: m stands for what would be asked after reading.
+pub unread-with : (s o net : List ℕ) (m : ℕ) (r : Reading) → r ≡ answer (reading sheetLayout s) → (n : ℕ) → r ≡ reading.Refused n
+    → (Refused n ≡ translatedWith (orElse (reading sheetLayout s) m) (length net)) × (o ≡ bufferWith (orElse (reading sheetLayout s) m) net o)
+unread-with s o net m r er n h =
+    let (k, f, e) = answer-refused (reading sheetLayout s) r er n h in
+    rw f (ap asTranslated e, refl)
+
+pub unread : (s o : List ℕ) (r : Reading) → r ≡ answer (reading sheetLayout s) → (n : ℕ) → r ≡ reading.Refused n → (Refused n ≡ translatedOf s o) × (o ≡ bufferOf s o)
+unfolding translatedOf bufferOf translateRefusal
+unread s o r er n h = unread-with s o (networkBytes s) _ r er n h

@@ -1,6 +1,6 @@
 -- Transitions with the numbers of new conditions: one, and the loop's start, room, turn and end. Assumes nothing.
-use mathlib.Core.Path.{_≡_, sym, ap, ap₂, subst, _∙_}
-use mathlib.Core.List.{List, _++_}
+use mathlib.Core.Path.{_≡_, refl, sym, ap, ap₂, subst, _∙_}
+use mathlib.Core.List.{List, [], _∷_, _++_}
 use Prim.Native.Nat.{ℕ, suc, _+_, _-_, _≤_, _<_}
 use native.Mathlib.Omega.{arith}
 use lib.ListN.{length, take, drop, length-drop}
@@ -15,6 +15,12 @@ use Rattle.translation.specs.Card.{guardedBy, guardedFrom}
 use Rattle.translation.specs.Walk.{Room, Writes, countedPairs, baseBytes}
 use Rattle.translation.proofs.Writing.{Writing, writes-then, room-then, writing-start, writing-room, writing-next, writing-end}
 use Rattle.translation.proofs.Records.{counted-written}
+
+-- as many transitions as before
+pub length-guarded : (i : ℕ) (l : List Paired) → length (guardedFrom i l) ≡ length l
+unfolding guardedFrom
+length-guarded i [] = refl
+length-guarded i (t ∷ l) = ap suc (length-guarded (suc i) l)
 
 -- a transition with another condition
 abbrev numbered : ℕ → Transition → Transition

@@ -1,5 +1,5 @@
 -- One joined condition, transition by transition. Assumes nothing.
-use mathlib.Core.Path.{_≡_, sym, ap, _∙_}
+use mathlib.Core.Path.{_≡_, refl, sym, ap, _∙_}
 use mathlib.Core.Bool.{Bool, true, false, cond}
 use mathlib.Core.List.{List, [], _∷_, _++_, map}
 use Prim.Native.Nat.{ℕ, suc, _+_, _-_, _*_, _≤_, _<_}
@@ -11,11 +11,17 @@ use Rattle.sheet.specs.Table.{table, after, records}
 use Rattle.sheet.specs.Decode.{transitionOf, pairedForm, conditionsIn, transitionsIn, transitionsAt, commonOf}
 use Rattle.sheet.specs.Reading.{conditionIn}
 use Rattle.sheet.proofs.Tables.{table-step, length-records}
-use Rattle.translation.specs.Card.{isOf, joinedText}
+use Rattle.translation.specs.Card.{isOf, joinedText, joinedFrom}
 use Rattle.translation.specs.Walk.{Room, Writes}
 use Rattle.translation.specs.CardWalk.{Narrow, earlierIn}
 use Rattle.translation.proofs.Writing.{Writing, writing-start, writing-room, writing-next, writing-last}
 use Rattle.translation.proofs.Reaching.{network-short, few-transitions, condition-most, reached-start, reached-next, reached-within, reached-there}
+
+-- as many joined conditions as transitions
+pub length-joined : (C : Common) (e l : List Transition) → length (joinedFrom C e l) ≡ length l
+unfolding joinedFrom
+length-joined C e [] = refl
+length-joined C e (t ∷ l) = ap suc (length-joined C (e ++ t ∷ []) l)
 
 abbrev basesAt : List ℕ → ℕ → ℕ → List Transition
 basesAt n left place = map (λ (t : Paired). t .base) (table pairedForm left n place)

@@ -83,7 +83,7 @@ good-sheet {s} a = record {
   few = λ i h. sheet-together a i noTriple h;
 }
 
-every-two : {A : Type 0} (p q : A → Bool) (l : List A) → every p l ≡ true → every q l ≡ true → every (λ x. p x && q x) l ≡ true
+pub every-two : {A : Type 0} (p q : A → Bool) (l : List A) → every p l ≡ true → every q l ≡ true → every (λ x. p x && q x) l ≡ true
 unfolding every
 every-two p q [] h k = refl
 every-two p q (x ∷ l) h k =

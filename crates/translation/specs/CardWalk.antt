@@ -25,7 +25,7 @@ pub record Narrow (n index : List ℕ) (transitions : ℕ) : Type 0 where
   pub from : transitions ≡ transitionsAt n
 
 -- and its header, and where its templates stand
-pub record Opened (n : List ℕ) (h : Header) (index : List ℕ) (transitions last : ℕ) : Type 0 where
+pub record PreparedNetwork (n : List ℕ) (h : Header) (index : List ℕ) (transitions last : ℕ) : Type 0 where
   pub network : Narrow n index transitions
   pub header : h ≡ headerOf n
   pub templates : last ≡ lastAt pairedForm n

@@ -14,7 +14,7 @@ ghost use Rattle.sheet.specs.Reading.{reading, sheetLayout, networkLayout, cond
 ghost use Rattle.translation.specs.Card.{isOf, joinedText, joinedConditions, guardedBy, guardedFrom, separated};
 ghost use Rattle.translation.specs.Answer.{translatedWith, bufferWith, cardOf, cardBufferOf};
 ghost use Rattle.translation.specs.Walk.{Room, Writes};
-ghost use Rattle.translation.specs.CardWalk.{Narrow, Opened, earlierIn, WritesWide, separatedBytes, joinedShort, separateRefusal};
+ghost use Rattle.translation.specs.CardWalk.{Narrow, PreparedNetwork, earlierIn, WritesWide, separatedBytes, joinedShort, separateRefusal};
 use crate::Translated;
 use crate::write;
 use crate::write::Both;
@@ -199,7 +199,7 @@ fn tables(
     out: &mut [u8],
     at: usize,
 ) -> usize
-    requires { ⌜ Opened (now n) h (now index) from last × (at ≡ 14) ⌝ }
+    requires { ⌜ PreparedNetwork (now n) h (now index) from last × (at ≡ 14) ⌝ }
     ensures { λ r. ⌜ Writes (now (out .entry)) (now (out .exit)) at (tableBytes true (separated (networkOf (now (n .entry))))) r ⌝ }
 {
     let first = words(n, 14, h.monitors, out, at);
@@ -212,7 +212,7 @@ fn tables(
 
 // How long the network is: it is written where there is no room.
 fn measure(n: &[u8], h: Header, index: &[u32; 161], from: u32, last: u32) -> usize
-    requires { ⌜ Opened (now n) h (now index) from last ⌝ }
+    requires { ⌜ PreparedNetwork (now n) h (now index) from last ⌝ }
     ensures { λ r. ⌜ (r ≡ length (separatedBytes (now (n .entry)))) × (r < 1000000) ⌝ }
 {
     let mut none = [0u8; 1];
@@ -221,7 +221,7 @@ fn measure(n: &[u8], h: Header, index: &[u32; 161], from: u32, last: u32) -> usi
 
 // Writes the network at the front of a buffer that holds it.
 fn fill(n: &[u8], h: Header, index: &[u32; 161], from: u32, last: u32, size: u16, out: &mut [u8])
-    requires { ⌜ Opened (now n) h (now index) from last × (size ≡ length (separatedBytes (now n))) × (length (separatedBytes (now n)) ≤ length (now out)) ⌝ }
+    requires { ⌜ PreparedNetwork (now n) h (now index) from last × (size ≡ length (separatedBytes (now n))) × (length (separatedBytes (now n)) ≤ length (now out)) ⌝ }
     ensures { λ _. ⌜ now (out .exit) ≡ separatedBytes (now (n .entry)) ++ drop (length (separatedBytes (now (n .entry)))) (now (out .entry)) ⌝ }
 {
     let net = Header {
