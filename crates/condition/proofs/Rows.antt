@@ -1,51 +1,11 @@
--- The starred rows of document 01 on conditions and values, as rows under one claim about the definitions. Assumes nothing.
-use mathlib.Core.Path.{_≡_, refl}
-use mathlib.Core.Bool.{Bool, true, false}
-use mathlib.Core.List.{List, [], _∷_, _++_}
-use Prim.Native.Nat.{ℕ}
-use lib.IntN.{ℤ, pos, negsuc}
-use Rattle.condition.specs.Word.{signed, bigEndian, plusWord, lessWord, withinWord, difference}
+-- The starred rows hold, by computation. Assumes nothing.
+use mathlib.Core.Path.{refl}
+use Rattle.condition.specs.Word.{signed, unsigned, lowEnd, highEnd, clamp, bigEndian, plusWord, minusWord, lessWord, withinWord, difference}
 use Rattle.condition.specs.Parse.{parseCondition, parseValue, conditionFrom, valueFrom, conditionOperator, valueOperator, literal}
-use Rattle.condition.specs.Meaning.{environment, holds, word}
-use Rattle.condition.specs.Answer.{Outcome, refused, given, conditionOutcome, valueOutcome}
-
--- The bytes of a condition and whether it holds, or of a value and how it reads as signed. No value is lent.
-pub data Row : Type 0 where
-  condition : List ℕ → Bool → Row
-  value : List ℕ → ℤ → Row
-
-abbrev pub reading : Outcome ℕ → Outcome ℤ
-reading (refused n) = refused n
-reading (given w) = given (signed w)
-
-abbrev pub Shown : Row → Type 0
-Shown (condition s b) = conditionOutcome s (environment [] [] []) ≡ given b
-Shown (value s z) = reading (valueOutcome s (environment [] [] [])) ≡ given z
-
-abbrev pub All : List Row → Type 0
-All [] = Unit {0}
-All (r ∷ more) = Shown r × All more
-
--- The value of a word's four bytes, and the rows: first how the words read, then document 01's.
-abbrev pub bytes : ℕ → ℕ → ℕ → ℕ → List ℕ
-bytes a b c d = 16 ∷ a ∷ b ∷ c ∷ d ∷ []
-
-abbrev pub rows : List Row
-rows =
-    let lowest = bytes 0x80 0x00 0x00 0x00 in
-    let highest = bytes 0x7F 0xFF 0xFF 0xFF in
-    let minusOne = bytes 0xFF 0xFF 0xFF 0xFF in
-    let zero = bytes 0x00 0x00 0x00 0x00 in
-    let one = bytes 0x00 0x00 0x00 0x01 in
-    value lowest (negsuc 2147483647) ∷
-    value highest (pos 2147483647) ∷
-    value minusOne (negsuc 0) ∷
-    condition (6 ∷ (lowest ++ highest ++ one)) true ∷
-    condition (6 ∷ (lowest ++ highest ++ zero)) false ∷
-    condition (4 ∷ (minusOne ++ zero)) true ∷
-    value (20 ∷ (highest ++ one)) (negsuc 2147483647) ∷
-    []
+use Rattle.condition.specs.Meaning.{holds, word}
+use Rattle.condition.specs.Answer.{conditionOutcome, valueOutcome}
+use Rattle.condition.specs.Rows.{All, rows}
 
 pub rows-hold : All rows
-unfolding conditionOutcome valueOutcome parseCondition parseValue conditionFrom valueFrom conditionOperator valueOperator literal holds word signed bigEndian plusWord lessWord withinWord difference
-rows-hold = (refl, (refl, (refl, (refl, (refl, (refl, (refl, tt)))))))
+unfolding conditionOutcome valueOutcome parseCondition parseValue conditionFrom valueFrom conditionOperator valueOperator literal holds word signed bigEndian plusWord minusWord unsigned clamp lowEnd highEnd lessWord withinWord difference
+rows-hold = (refl, (refl, (refl, (refl, (refl, (refl, (refl, (refl, (refl, (refl, (refl, (refl, tt))))))))))))

@@ -4,4 +4,5 @@ pub mod Tree
 pub mod Parse
 pub mod Meaning
 pub mod Answer
+pub mod Rows
 pub mod Walk

@@ -5,7 +5,8 @@ use Rattle.condition.proofs.word.less.Statement.{statement}
 use Rattle.condition.proofs.word.less.Tie as tie
 
 returns : tie.Need-returns
-returns c = rw (c .before .wrapping-add-u32 .ensures, c .wrapping-add-u322 .ensures) (less-moved _ _ (c .before .before .fits .a .fits) (c .before .before .fits .b .fits))
+returns c =
+    rw (c .before .raised .ensures .0, c .raised2 .ensures .0) (less-moved _ _ (c .before .before .fits .a .fits) (c .before .before .fits .b .fits))
 
 pub less-spec : {M : Type 1} → statement M
 less-spec =
