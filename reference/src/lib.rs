@@ -3,6 +3,7 @@
 
 pub mod card_cases;
 pub mod condition_cases;
+mod condition_ends;
 pub mod deciding;
 pub mod draft;
 pub mod dump;
