@@ -2,8 +2,7 @@
 //! tick comparison alone turns round (document 02, slip 2).
 
 use crate::condition_cases::{
-    joined, left_to, number, op, right_to, Rows, Values, E0, E1, ENDS, FALSE, M0, NOTHING, P0, P1,
-    P2, TRUE,
+    left_to, number, op, right_to, Rows, Values, E0, E1, ENDS, FALSE, M0, NOTHING, P0, P1, P2, TRUE,
 };
 use crate::frames::Kind;
 
@@ -48,15 +47,26 @@ fn minus(a: &[u8], b: &[u8]) -> Vec<u8> {
     op(MINUS, &[a, b])
 }
 
-/// One past the greatest, and two.
+/// One past the greatest, or two: by plus.
 fn over(past: i32) -> Vec<u8> {
     plus(&number(GREATEST), &number(past))
 }
 
-/// One below the least, and two.
+/// One below the least, or two: by minus.
 fn under(past: i32) -> Vec<u8> {
     minus(&number(LEAST), &number(past))
 }
+
+/// What is past the ends, with either operator: `over` and `under`.
+type Past = (fn(i32) -> Vec<u8>, fn(i32) -> Vec<u8>);
+
+const BOTH_WAYS: [Past; 2] = [
+    (over, under),
+    (
+        |past| minus(&number(GREATEST), &number(-past)),
+        |past| plus(&number(LEAST), &number(-past)),
+    ),
+];
 
 // ---- One operator -----------------------------------------------------------------------------
 
@@ -133,7 +143,7 @@ fn one_operator(rows: &mut Rows) {
 
 // ---- Sums inside sums -------------------------------------------------------------------------
 
-/// What would come back into the range if it turned round, or if it stopped at the end only once.
+/// What would come back into the range if it turned round, or if the outer operator alone stopped.
 fn inside(rows: &mut Rows) {
     let (least, greatest) = (&number(LEAST)[..], &number(GREATEST)[..]);
     let (zero, one, two) = (&number(0)[..], &number(1)[..], &number(2)[..]);
@@ -155,19 +165,22 @@ fn inside(rows: &mut Rows) {
         (minus(&over(1), &under(1)), 2147483647),
         (minus(&under(1), &over(1)), -2147483648),
         (plus(&over(1), &under(1)), -1),
-        (
-            plus(&plus(&plus(greatest, greatest), least), least),
-            -2147483648,
-        ),
         (plus(&plus(greatest, greatest), &plus(least, least)), -1),
-        (
-            plus(greatest, &plus(greatest, &plus(least, least))),
-            2147483646,
-        ),
-        (
-            plus(&plus(&plus(least, least), greatest), greatest),
-            2147483646,
-        ),
+    ] {
+        rows.value(&bytes, NOTHING, expected);
+    }
+}
+
+/// The same, three levels deep.
+fn deeper_inside(rows: &mut Rows) {
+    let (least, greatest) = (&number(LEAST)[..], &number(GREATEST)[..]);
+    let (zero, one) = (&number(0)[..], &number(1)[..]);
+    let (high, low) = (plus(greatest, greatest), plus(least, least));
+    for (bytes, expected) in [
+        (plus(&plus(&high, least), least), -2147483648),
+        (plus(greatest, &plus(greatest, &low)), 2147483646),
+        (plus(&plus(&low, greatest), greatest), 2147483646),
+        (plus(least, &plus(least, &high)), -2147483648),
         (
             minus(greatest, &minus(least, &minus(greatest, least))),
             2147483647,
@@ -251,6 +264,12 @@ fn deep(rows: &mut Rows) {
 // ---- Comparing --------------------------------------------------------------------------------
 
 fn comparing(rows: &mut Rows) {
+    for past in BOTH_WAYS {
+        compare_past(rows, past);
+    }
+}
+
+fn compare_past(rows: &mut Rows, (over, under): Past) {
     let (least, greatest, zero) = (number(LEAST), number(GREATEST), number(0));
     for (a, b, order) in [
         (&over(1), &greatest, 0),
@@ -276,20 +295,29 @@ fn comparing(rows: &mut Rows) {
 
 /// A value is less than itself plus 1, but for the greatest; and what else holds but at an end.
 fn but_at_an_end(rows: &mut Rows) {
-    let one = &number(1)[..];
     for n in ENDS {
         for (leaf, values) in [
             (P0, Values(&[n], &[], &[])),
             (M0, Values(&[], &[n], &[])),
             (E0, Values(&[], &[], &[n])),
         ] {
-            let (up, down) = (plus(leaf, one), minus(leaf, one));
-            rows.condition(&op(4, &[leaf, &up]), values, n != GREATEST);
-            rows.condition(&op(4, &[&down, leaf]), values, n != LEAST);
-            let (back, again) = (minus(&up, one), plus(&down, one));
-            rows.condition(&op(5, &[&back, leaf]), values, n != GREATEST);
-            rows.condition(&op(5, &[&again, leaf]), values, n != LEAST);
+            by_one(rows, leaf, values, n);
         }
+    }
+}
+
+/// Up and down by 1, with either operator, and back again.
+fn by_one(rows: &mut Rows, leaf: &[u8], values: Values, n: i32) {
+    let (one, minus_one) = (&number(1)[..], &number(-1)[..]);
+    for (up, down) in [
+        (plus(leaf, one), minus(leaf, one)),
+        (minus(leaf, minus_one), plus(leaf, minus_one)),
+    ] {
+        rows.condition(&op(4, &[leaf, &up]), values, n != GREATEST);
+        rows.condition(&op(4, &[&down, leaf]), values, n != LEAST);
+        let (back, again) = (minus(&up, one), plus(&down, one));
+        rows.condition(&op(5, &[&back, leaf]), values, n != GREATEST);
+        rows.condition(&op(5, &[&again, leaf]), values, n != LEAST);
     }
 }
 
@@ -322,6 +350,13 @@ fn choosing(rows: &mut Rows) {
 
 /// Ticks, some of them sums that stop at an end: the difference of the two still turns round.
 fn ticks(rows: &mut Rows) {
+    for past in BOTH_WAYS {
+        ticks_past(rows, past);
+        within_a_sum(rows, past);
+    }
+}
+
+fn ticks_past(rows: &mut Rows, (over, under): Past) {
     let (least, greatest, zero) = (number(LEAST), number(GREATEST), number(0));
     // The ticks, the least k for which it holds, and one less.
     for (a, b, elapsed) in [
@@ -347,11 +382,10 @@ fn ticks(rows: &mut Rows) {
             rows.condition(&holds(elapsed.wrapping_sub(1)), NOTHING, false);
         }
     }
-    within_a_sum(rows);
 }
 
 /// What ticks are compared with is a sum or difference that stops at an end, and then read unsigned.
-fn within_a_sum(rows: &mut Rows) {
+fn within_a_sum(rows: &mut Rows, (over, under): Past) {
     for (elapsed, k, expected) in [
         (GREATEST, over(1), true),
         (LEAST, over(1), false),
@@ -383,80 +417,94 @@ fn ticks_at_the_ends(rows: &mut Rows) {
 
 // ---- Actions ----------------------------------------------------------------------------------
 
-/// Variables 0 and 1 are one before an end. Later assignments read what earlier ones stopped.
-fn actions(rows: &mut Rows) {
-    let (x0, x1, x2): (&[u8], &[u8], &[u8]) = (&[18, 0], &[18, 1], &[18, 2]);
-    let one = &number(1)[..];
-    let values = Values(
-        &[GREATEST, LEAST],
-        &[GREATEST - 1, LEAST + 1, 5, -5],
-        &[1, -1],
-    );
-    let up = op(0, &[&plus(x0, one)]);
-    let down = op(1, &[&minus(x1, one)]);
-    for (parts, expected) in [
-        (vec![up.clone()], [2147483647, -2147483647, 5, -5]),
-        (up_and(&up, 2, &[]), [2147483647, -2147483647, 5, -5]),
-        (up_and(&up, 7, &[]), [2147483647, -2147483647, 5, -5]),
-        (vec![down.clone()], [2147483646, -2147483648, 5, -5]),
-        (up_and(&down, 2, &[]), [2147483646, -2147483648, 5, -5]),
-        (up_and(&down, 7, &[]), [2147483646, -2147483648, 5, -5]),
-        (
-            up_and(&up, 3, &[op(0, &[&minus(x0, one)])]),
-            [2147483646, -2147483647, 5, -5],
-        ),
-        (
-            up_and(&down, 3, &[op(1, &[&plus(x1, one)])]),
-            [2147483646, -2147483647, 5, -5],
-        ),
-        (
-            up_and(&up, 3, &[op(2, &[&minus(x0, P0)])]),
-            [2147483647, -2147483647, 0, -5],
-        ),
-        (
-            up_and(&down, 3, &[op(3, &[&minus(P1, x1)])]),
-            [2147483646, -2147483648, 5, 0],
-        ),
-        (
-            vec![op(2, &[&plus(P0, P0)]), op(3, &[&minus(x2, one)])],
-            [2147483646, -2147483647, 2147483647, 2147483646],
-        ),
-        (
-            vec![op(2, &[&plus(P1, P1)]), op(3, &[&minus(E1, x2)])],
-            [2147483646, -2147483647, -2147483648, 2147483647],
-        ),
-        (
-            vec![op(2, &[&minus(x0, x1)]), op(3, &[&minus(x1, x0)])],
-            [2147483646, -2147483647, 2147483647, -2147483648],
-        ),
-        (
-            vec![op(3, &[&minus(&number(0), P1)]), op(3, &[&plus(M3, P1)])],
-            [2147483646, -2147483647, 5, -1],
-        ),
-        (
-            vec![op(0, &[&plus(x0, x0)]), op(1, &[&plus(x1, x0)])],
-            [2147483647, 0, 5, -5],
-        ),
+const X0: &[u8] = &[18, 0];
+const X1: &[u8] = &[18, 1];
+const X2: &[u8] = &[18, 2];
+const X3: &[u8] = &[18, 3];
+
+/// Variables 0 and 1 are one before an end.
+const NEAR: Values = Values(
+    &[GREATEST, LEAST],
+    &[GREATEST - 1, LEAST + 1, 5, -5],
+    &[1, -1],
+);
+
+/// Assignments one after the other, and the variables after them.
+fn done(rows: &mut Rows, assignments: &[Vec<u8>], after: [i32; 4]) {
+    let line: String = after.iter().map(|n| format!(" {n}")).collect();
+    let bytes = assignments.concat();
+    rows.add(Kind::Action, &bytes, NEAR, &format!("done{line}"));
+}
+
+/// Counting past an end, with either operator; and back again, or a difference to the end.
+fn counting_actions(rows: &mut Rows) {
+    let (one, minus_one) = (&number(1)[..], &number(-1)[..]);
+    for (up, down) in [
+        (plus(X0, one), minus(X1, one)),
+        (minus(X0, minus_one), plus(X1, minus_one)),
     ] {
-        let line: String = expected.iter().map(|n| format!(" {n}")).collect();
-        let parts: Vec<&[u8]> = parts.iter().map(|part| &part[..]).collect();
-        let bytes = joined(&parts);
-        rows.add(Kind::Action, &bytes, values, &format!("done{line}"));
+        let (up, down) = (op(0, &[&up]), op(1, &[&down]));
+        for count in [1, 2, 3, 6] {
+            let past = vec![up.clone(); count];
+            done(rows, &past, [2147483647, -2147483647, 5, -5]);
+            let past = vec![down.clone(); count];
+            done(rows, &past, [2147483646, -2147483648, 5, -5]);
+        }
+        let past = |count: &Vec<u8>, last: Vec<u8>| [vec![count.clone(); 3], vec![last]].concat();
+        let back = past(&up, op(0, &[&minus(X0, one)]));
+        done(rows, &back, [2147483646, -2147483647, 5, -5]);
+        let back = past(&down, op(1, &[&plus(X1, one)]));
+        done(rows, &back, [2147483646, -2147483647, 5, -5]);
+        let none = past(&up, op(2, &[&minus(X0, P0)]));
+        done(rows, &none, [2147483647, -2147483647, 0, -5]);
+        let none = past(&down, op(3, &[&minus(P1, X1)]));
+        done(rows, &none, [2147483646, -2147483648, 5, 0]);
     }
 }
 
-const M3: &[u8] = &[18, 3];
-
-/// An assignment several times, then others.
-fn up_and(assignment: &[u8], count: usize, others: &[Vec<u8>]) -> Vec<Vec<u8>> {
-    let mut parts = vec![assignment.to_vec(); count];
-    parts.extend_from_slice(others);
-    parts
+/// An assignment reads what another has just stopped at an end.
+fn reading_actions(rows: &mut Rows) {
+    let one = &number(1)[..];
+    for (first, second, after) in [
+        (
+            op(2, &[&plus(P0, P0)]),
+            op(3, &[&minus(X2, one)]),
+            [2147483646, -2147483647, 2147483647, 2147483646],
+        ),
+        (
+            op(2, &[&plus(P1, P1)]),
+            op(3, &[&minus(E1, X2)]),
+            [2147483646, -2147483647, -2147483648, 2147483647],
+        ),
+        (
+            op(2, &[&minus(X0, X1)]),
+            op(3, &[&minus(X1, X0)]),
+            [2147483646, -2147483647, 2147483647, -2147483648],
+        ),
+        (
+            op(3, &[&minus(&number(0), P1)]),
+            op(3, &[&plus(X3, P1)]),
+            [2147483646, -2147483647, 5, -1],
+        ),
+        (
+            op(0, &[&plus(X0, X0)]),
+            op(1, &[&plus(X1, X0)]),
+            [2147483647, 0, 5, -5],
+        ),
+        (
+            op(1, &[&plus(X1, X1)]),
+            op(0, &[&plus(X1, X0)]),
+            [-2, -2147483648, 5, -5],
+        ),
+    ] {
+        done(rows, &[first, second], after);
+    }
 }
 
-pub(crate) const ALL: [fn(&mut Rows); 11] = [
+pub(crate) const ALL: [fn(&mut Rows); 13] = [
     one_operator,
     inside,
+    deeper_inside,
     three_operands,
     there_and_back,
     deep,
@@ -465,5 +513,6 @@ pub(crate) const ALL: [fn(&mut Rows); 11] = [
     choosing,
     ticks,
     ticks_at_the_ends,
-    actions,
+    counting_actions,
+    reading_actions,
 ];
