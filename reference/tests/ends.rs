@@ -5,16 +5,20 @@
 mod committed;
 
 use committed::{add, assert_shown, committed, lines, Counts};
+use reference::draft::SheetDraft;
 use reference::ends::{wanted, Operator, Stop, Turned, Written};
-use reference::expr::{self, Condition, Lent, Value};
+use reference::expr::{self, Action, Assignment, Condition, Lent, Value};
 use reference::frames::{self, Kind};
+use reference::machine;
 use reference::monitor_frames::Arms;
 use reference::network::Network;
 use reference::network_frames::Checkers;
 use reference::pages::PAGE;
+use reference::run::run;
 use reference::script_frames::{read_page, Bench, Frame, Own};
 use reference::sheet::Sheet;
 use reference::tally;
+use std::fs;
 
 const NOTHING: Lent = Lent {
     program: &[],
@@ -117,6 +121,59 @@ fn what_turns_round_does_so_at_its_end_alone() {
             assert!(given.iter().all(|n| [stopped, turning].contains(n)));
         }
     });
+}
+
+// ---- The counter of the request ---------------------------------------------------------------
+
+/// The counter adds up what unit 0 reports at its exits; at an entry of unit 1 more than 2,000,000,000
+/// is bad.
+fn actuations() -> Vec<u8> {
+    let mut sheet = SheetDraft::new(2, 2, 1, &[0]);
+    sheet.front.bad = 0b10;
+    let counter = || Box::new(Value::Monitor(0));
+    let always = sheet.condition(&Condition::True);
+    let more = sheet.condition(&Condition::Less(constant(2_000_000_000), counter()));
+    let nothing = sheet.action(&Action::default());
+    let adds = sheet.action(&Action {
+        assignments: vec![Assignment {
+            variable: 0,
+            value: Value::Plus(counter(), Box::new(Value::Program(0))),
+        }],
+    });
+    sheet.transition(0, 0, (machine::Kind::Exit, 0), always, adds);
+    sheet.transition(0, 1, (machine::Kind::Entry, 1), more, nothing);
+    sheet.bytes()
+}
+
+fn sample(name: &str) -> Vec<u8> {
+    let top = concat!(env!("CARGO_MANIFEST_DIR"), "/../samples");
+    fs::read(format!("{top}/{name}")).expect("the file is there")
+}
+
+/// A counter that passes the greatest number is more than the limit all the same, on the sheet and on
+/// both of its networks. Where sums turned round, the run was clean.
+#[test]
+fn the_more_than_rule_holds_past_the_greatest() {
+    assert_eq!(actuations(), sample("actuations.sheet"));
+    let sheet = Sheet::read(&actuations()).expect("it is a sheet");
+    let network = sheet.translate();
+    for (log, line, stops) in [
+        ("few", "clean 6 state 0 open 0", false),
+        ("many", "violated 7 state 1 triple -", false),
+        ("passed", "violated 7 state 1 triple -", true),
+        ("later", "violated 11 state 1 triple -", true),
+    ] {
+        let log = sample(&format!("actuations-{log}.log"));
+        let lines = [
+            run(&sheet, &log),
+            run(&network, &log),
+            run(&network.separated(), &log),
+        ];
+        assert_eq!(lines.map(|line| line.to_string()), [line; 3]);
+        let decides = Turned::of(&sheet).of_log(&log);
+        let label = format!("sheet run: {}", STOPS[0]);
+        assert_eq!(decides.contains(&label), stops, "{decides:?}");
+    }
 }
 
 // ---- What is wanted ---------------------------------------------------------------------------
