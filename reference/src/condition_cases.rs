@@ -1,6 +1,7 @@
 //! The cases of the program `condition_cases`: chosen ones with answers written down here, and
 //! random ones from a fixed seed.
 
+use crate::condition_ends::{self, difference, sum};
 use crate::expr::Counts;
 use crate::frames::{Frame, Kind};
 use crate::random::Random;
@@ -14,24 +15,28 @@ pub struct Row {
 
 /// What a frame lends: program, monitor and kept values.
 #[derive(Clone, Copy)]
-struct Values<'a>(&'a [i32], &'a [i32], &'a [i32]);
+pub(crate) struct Values<'a>(
+    pub(crate) &'a [i32],
+    pub(crate) &'a [i32],
+    pub(crate) &'a [i32],
+);
 
-const NOTHING: Values = Values(&[], &[], &[]);
+pub(crate) const NOTHING: Values = Values(&[], &[], &[]);
 /// One of each, all different, so that reading the wrong kind shows.
 const ONE: Values = Values(&[11], &[22], &[33]);
 const TWO: Values = Values(&[11, -12], &[22, -23], &[33, -34]);
 
 const REFUSED_4: &str = "refused 4";
 const REFUSED_5: &str = "refused 5";
-const ENDS: [i32; 7] = [i32::MIN, i32::MIN + 1, -1, 0, 1, i32::MAX - 1, i32::MAX];
+pub(crate) const ENDS: [i32; 7] = [i32::MIN, i32::MIN + 1, -1, 0, 1, i32::MAX - 1, i32::MAX];
 
 #[derive(Default)]
-struct Rows {
+pub(crate) struct Rows {
     rows: Vec<Row>,
 }
 
 impl Rows {
-    fn add(&mut self, kind: Kind, bytes: &[u8], values: Values, expected: &str) {
+    pub(crate) fn add(&mut self, kind: Kind, bytes: &[u8], values: Values, expected: &str) {
         let frame = frame(kind, bytes, values);
         self.rows.push(Row {
             frame,
@@ -39,11 +44,11 @@ impl Rows {
         });
     }
 
-    fn condition(&mut self, bytes: &[u8], values: Values, expected: bool) {
+    pub(crate) fn condition(&mut self, bytes: &[u8], values: Values, expected: bool) {
         self.add(Kind::Condition, bytes, values, &expected.to_string());
     }
 
-    fn value(&mut self, bytes: &[u8], values: Values, expected: i32) {
+    pub(crate) fn value(&mut self, bytes: &[u8], values: Values, expected: i32) {
         self.add(Kind::Value, bytes, values, &expected.to_string());
     }
 
@@ -75,17 +80,17 @@ fn frame(kind: Kind, bytes: &[u8], values: Values) -> Frame {
 
 // ---- Bytes of expressions ---------------------------------------------------------------------
 
-const TRUE: &[u8] = &[0];
-const FALSE: &[u8] = &[1, 0];
-const P0: &[u8] = &[17, 0];
-const P1: &[u8] = &[17, 1];
-const P2: &[u8] = &[17, 2];
-const M0: &[u8] = &[18, 0];
+pub(crate) const TRUE: &[u8] = &[0];
+pub(crate) const FALSE: &[u8] = &[1, 0];
+pub(crate) const P0: &[u8] = &[17, 0];
+pub(crate) const P1: &[u8] = &[17, 1];
+pub(crate) const P2: &[u8] = &[17, 2];
+pub(crate) const M0: &[u8] = &[18, 0];
 const M1: &[u8] = &[18, 1];
-const E0: &[u8] = &[19, 0];
-const E1: &[u8] = &[19, 1];
+pub(crate) const E0: &[u8] = &[19, 0];
+pub(crate) const E1: &[u8] = &[19, 1];
 
-fn op(operator: u8, operands: &[&[u8]]) -> Vec<u8> {
+pub(crate) fn op(operator: u8, operands: &[&[u8]]) -> Vec<u8> {
     let mut bytes = vec![operator];
     for operand in operands {
         bytes.extend_from_slice(operand);
@@ -93,11 +98,11 @@ fn op(operator: u8, operands: &[&[u8]]) -> Vec<u8> {
     bytes
 }
 
-fn number(n: i32) -> Vec<u8> {
+pub(crate) fn number(n: i32) -> Vec<u8> {
     op(16, &[&n.to_be_bytes()])
 }
 
-fn joined(parts: &[&[u8]]) -> Vec<u8> {
+pub(crate) fn joined(parts: &[&[u8]]) -> Vec<u8> {
     parts.concat()
 }
 
@@ -182,7 +187,8 @@ fn operators(rows: &mut Rows) {
     rows.value(&op(22, &[f, P0, M0]), ONE, 22);
 }
 
-/// The rows that document 01 stars, and the order of a constant's bytes.
+/// The rows that document 01 stars, the last as document 02's slip 2 has it, and the order of a
+/// constant's bytes.
 fn starred(rows: &mut Rows) {
     let (low, high) = (number(i32::MIN), number(i32::MAX));
     let one = number(1);
@@ -190,7 +196,7 @@ fn starred(rows: &mut Rows) {
     rows.condition(&op(6, &[&low, &high, &one]), NOTHING, true);
     rows.condition(&op(6, &[&low, &high, &zero]), NOTHING, false);
     rows.condition(&op(4, &[&number(-1), &zero]), NOTHING, true);
-    rows.value(&op(20, &[&high, &one]), NOTHING, i32::MIN);
+    rows.value(&op(20, &[&high, &one]), NOTHING, i32::MAX);
     rows.value(&[16, 1, 2, 3, 4], NOTHING, 16_909_060);
     rows.value(&[16, 128, 0, 0, 0], NOTHING, i32::MIN);
     rows.value(&[16, 127, 255, 255, 255], NOTHING, i32::MAX);
@@ -199,8 +205,8 @@ fn starred(rows: &mut Rows) {
     }
 }
 
-/// Modulo 2^32 and read as signed, worked out in 64 bits.
-fn wrapped(exact: i64) -> i32 {
+/// The tick that this whole number is: modulo 2^32 and read as signed.
+fn tick(exact: i64) -> i32 {
     let unsigned = exact.rem_euclid(1 << 32);
     let signed = if unsigned >= 1 << 31 {
         unsigned - (1 << 32)
@@ -215,11 +221,10 @@ fn ends_of_range(rows: &mut Rows) {
     for a in ENDS {
         for b in ENDS {
             let values = Values(&[a, b], &[], &[]);
-            let (wide_a, wide_b) = (i64::from(a), i64::from(b));
-            rows.condition(&op(4, &[P0, P1]), values, wide_a < wide_b);
-            rows.condition(&op(5, &[P0, P1]), values, wide_a == wide_b);
-            rows.value(&op(20, &[P0, P1]), values, wrapped(wide_a + wide_b));
-            rows.value(&op(21, &[P0, P1]), values, wrapped(wide_a - wide_b));
+            rows.condition(&op(4, &[P0, P1]), values, a < b);
+            rows.condition(&op(5, &[P0, P1]), values, a == b);
+            rows.value(&op(20, &[P0, P1]), values, sum(a, b));
+            rows.value(&op(21, &[P0, P1]), values, difference(a, b));
         }
     }
 }
@@ -241,7 +246,7 @@ fn within_edges(rows: &mut Rows) {
         for k in spans {
             for past in [-1i64, 0, 1] {
                 let elapsed = i64::from(k) + past;
-                let a = wrapped(i64::from(start) + elapsed);
+                let a = tick(i64::from(start) + elapsed);
                 let holds = elapsed.rem_euclid(1 << 32) <= i64::from(k);
                 rows.condition(&expression, Values(&[a, start, k as i32], &[], &[]), holds);
             }
@@ -294,12 +299,12 @@ fn long_lengths(rows: &mut Rows) {
 }
 
 /// `count` times `operator` nested in its first operand; the last operand is another.
-fn left_to(operator: u8, count: usize, leaf: &[u8], last: &[u8]) -> Vec<u8> {
+pub(crate) fn left_to(operator: u8, count: usize, leaf: &[u8], last: &[u8]) -> Vec<u8> {
     joined(&[&vec![operator; count], &leaf.repeat(count), last])
 }
 
 /// `count` times `operator` nested in its second operand; the last operand is another.
-fn right_to(operator: u8, count: usize, leaf: &[u8], last: &[u8]) -> Vec<u8> {
+pub(crate) fn right_to(operator: u8, count: usize, leaf: &[u8], last: &[u8]) -> Vec<u8> {
     joined(&[&op(operator, &[leaf]).repeat(count), last])
 }
 
@@ -706,7 +711,7 @@ fn actions(rows: &mut Rows) {
     done(&joined(&[&[0, 18, 3], &chosen]), " 40 20 6 40");
     done(
         &op(3, &[&op(20, &[&number(i32::MAX), P0])]),
-        " 10 20 30 -2147483644",
+        " 10 20 30 2147483647",
     );
 }
 
@@ -799,7 +804,10 @@ pub fn chosen() -> Vec<Row> {
         full_values,
         long_malformed,
         long_actions,
-    ] {
+    ]
+    .into_iter()
+    .chain(condition_ends::ALL)
+    {
         add(&mut rows);
     }
     rows.rows

@@ -87,10 +87,10 @@ impl<'a, R: Narrow> Both<'a, R> {
     }
 }
 
-const STATE: &str = "the state";
-const VARIABLE: &str = "a variable";
-const ARMED: &str = "what is armed";
-const TRIPLE: &str = "the triple";
+pub(crate) const STATE: &str = "the state";
+pub(crate) const VARIABLE: &str = "a variable";
+pub(crate) const ARMED: &str = "what is armed";
+pub(crate) const TRIPLE: &str = "the triple";
 
 impl Byte {
     /// The same but for this byte; both are over 255.
@@ -198,7 +198,7 @@ impl Oversight {
         match (one, other) {
             (Ok(a), Ok(b)) if self.shown::<R>(a) == self.shown::<R>(b) => Vec::new(),
             (Ok(a), Ok(b)) => {
-                let parts = self.parts::<R>(a, b).into_iter();
+                let parts = parts::<R>(self.shown::<R>(a), self.shown::<R>(b)).into_iter();
                 let parts = parts.map(|part| format!("{label} {part}"));
                 parts.chain([label.into()]).collect()
             }
@@ -206,24 +206,23 @@ impl Oversight {
             _ => vec![label.into()],
         }
     }
+}
 
-    /// The parts of a state in which two differ.
-    fn parts<R: Rules>(self, a: &R::State, b: &R::State) -> Vec<&'static str> {
-        let (mut a, mut b) = (self.shown::<R>(a), self.shown::<R>(b));
-        let one = std::mem::take(R::common_mut(&mut a));
-        let other = std::mem::take(R::common_mut(&mut b));
-        let triple = |common: &Common| common.verdict.and_then(|v| v.cause.triple());
-        [
-            (STATE, one.main != other.main),
-            (VARIABLE, one.variables != other.variables),
-            (ARMED, a != b),
-            (TRIPLE, triple(&one) != triple(&other)),
-        ]
-        .iter()
-        .filter(|(_, differ)| *differ)
-        .map(|(part, _)| *part)
-        .collect()
-    }
+/// The parts in which two states differ.
+pub(crate) fn parts<R: Rules>(mut a: R::State, mut b: R::State) -> Vec<&'static str> {
+    let one = std::mem::take(R::common_mut(&mut a));
+    let other = std::mem::take(R::common_mut(&mut b));
+    let triple = |common: &Common| common.verdict.and_then(|v| v.cause.triple());
+    [
+        (STATE, one.main != other.main),
+        (VARIABLE, one.variables != other.variables),
+        (ARMED, a != b),
+        (TRIPLE, triple(&one) != triple(&other)),
+    ]
+    .iter()
+    .filter(|(_, differ)| *differ)
+    .map(|(part, _)| *part)
+    .collect()
 }
 
 // ---- Runs and events --------------------------------------------------------------------------

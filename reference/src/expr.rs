@@ -111,8 +111,8 @@ impl Value {
             Value::Program(i) => look_up(lent.program, *i),
             Value::Monitor(i) => look_up(lent.monitor, *i),
             Value::AtEntry(i) => look_up(lent.kept, *i),
-            Value::Plus(a, b) => a.of(lent).wrapping_add(b.of(lent)),
-            Value::Minus(a, b) => a.of(lent).wrapping_sub(b.of(lent)),
+            Value::Plus(a, b) => nearest(a.whole(lent) + b.whole(lent)),
+            Value::Minus(a, b) => nearest(a.whole(lent) - b.whole(lent)),
             Value::Choose(c, a, b) => {
                 if c.holds(lent) {
                     a.of(lent)
@@ -122,6 +122,16 @@ impl Value {
             }
         }
     }
+
+    /// In 64 bits, where no sum or difference of two values is out of range.
+    fn whole(&self, lent: &Lent) -> i64 {
+        self.of(lent).into()
+    }
+}
+
+/// A whole number, or the end of the signed range that is nearest to it.
+fn nearest(whole: i64) -> i32 {
+    whole.clamp(i32::MIN.into(), i32::MAX.into()) as i32
 }
 
 /// Reading an expression has checked the number against the same counts, so the 0 is not met.

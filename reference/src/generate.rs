@@ -5,6 +5,7 @@ use crate::expr::{Action, Condition, Counts, Value, LONGEST, LONGEST_ALONE};
 use crate::machine::Kind;
 use crate::network::Network;
 use crate::random::Random;
+use crate::random_ends;
 use crate::random_expr::{self, Taste};
 use crate::run::{write_log, Record};
 use crate::sheet::Sheet;
@@ -683,7 +684,9 @@ fn any_length(random: &mut Random, most: usize) -> usize {
 }
 
 /// One case in this many is a wide one.
-const WIDE: usize = 8;
+const WIDE: usize = 6;
+/// One of the others in this many is at the ends of the range.
+const ENDS: usize = 8;
 /// One of the others in this many has many rivals.
 const RIVALS: usize = 12;
 
@@ -691,6 +694,9 @@ const RIVALS: usize = 12;
 pub fn run_case(random: &mut Random) -> RunCase {
     if random.chance(1, WIDE) {
         return wide_case(random);
+    }
+    if random.chance(1, ENDS) {
+        return ends_case(random);
     }
     if random.chance(1, RIVALS) {
         let draft = sheet_of_rivals(random);
@@ -718,6 +724,14 @@ fn wide_case(random: &mut Random) -> RunCase {
     let units = wide::units(random);
     let sheet = wide::sheet(random, &units).bytes();
     let log = wide::log::<Sheet>(random, &sheet, &units);
+    RunCase { sheet, log }
+}
+
+/// A sheet and a log at the ends of the range.
+fn ends_case(random: &mut Random) -> RunCase {
+    let draft = random_ends::sheet(random);
+    let log = write_log(draft.front.program, &random_ends::records(random));
+    let sheet = draft.bytes();
     RunCase { sheet, log }
 }
 
@@ -756,6 +770,9 @@ pub fn network_case(random: &mut Random, sheet_log: &[u8]) -> NetworkCase {
     if random.chance(1, WIDE) {
         return wide_network_case(random);
     }
+    if random.chance(1, ENDS) {
+        return ends_network_case(random);
+    }
     usual_network_case(random, sheet_log)
 }
 
@@ -766,6 +783,16 @@ fn wide_network_case(random: &mut Random) -> NetworkCase {
     let draft = network_like(random, base);
     let network = in_any_version(random, draft).bytes();
     let log = wide::log::<Network>(random, &network, &units);
+    NetworkCase { network, log }
+}
+
+/// A network at the ends of the range that no sheet need give, and a log for it.
+fn ends_network_case(random: &mut Random) -> NetworkCase {
+    let base = random_ends::sheet(random);
+    let draft = network_like(random, base);
+    let draft = in_any_version(random, draft);
+    let log = write_log(draft.front.program, &random_ends::records(random));
+    let network = draft.bytes();
     NetworkCase { network, log }
 }
 

@@ -3,9 +3,11 @@
 
 pub mod card_cases;
 pub mod condition_cases;
+mod condition_ends;
 pub mod deciding;
 pub mod draft;
 pub mod dump;
+pub mod ends;
 pub mod engine;
 pub mod expr;
 pub mod frames;
@@ -25,6 +27,7 @@ pub mod programs;
 #[cfg(feature = "embed")]
 pub mod proved;
 pub mod random;
+pub mod random_ends;
 pub mod random_expr;
 pub mod random_script;
 pub mod refusal;
@@ -32,6 +35,7 @@ pub mod rival_sheets;
 pub mod run;
 pub mod samples;
 pub mod script;
+pub mod script_ends;
 pub mod script_frames;
 pub mod shared_cases;
 pub mod shared_clauses;

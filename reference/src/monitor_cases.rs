@@ -13,7 +13,7 @@ use crate::shared_cases::{self, base, full_state, tiny, Events, Near, Subject};
 use crate::sheet::Sheet;
 use crate::sheet_cases::SHEET_A;
 use crate::state::SheetState;
-use crate::{wide, wide_cases};
+use crate::{script_ends, wide_cases};
 
 pub type Page = script::Page<Arms>;
 type Script = script::Script<Sheet>;
@@ -37,8 +37,8 @@ impl Subject for Sheet {
         draft.bytes()
     }
 
-    fn wide(random: &mut Random, units: &[u8]) -> Vec<u8> {
-        wide::sheet(random, units).bytes()
+    fn like(_: &mut Random, draft: SheetDraft) -> Vec<u8> {
+        draft.bytes()
     }
 
     fn arm(state: &mut SheetState, place: usize, triple: u8) {
@@ -268,7 +268,8 @@ pub fn all() -> Vec<Page> {
         shared_cases::logs,
         random_cases,
     ]);
-    [vec![first], wide_cases::pages::<Sheet>()]
+    let ends = vec![script_ends::page::<Sheet>()];
+    [vec![first], wide_cases::pages::<Sheet>(), ends]
         .into_iter()
         .flatten()
         .collect()

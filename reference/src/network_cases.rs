@@ -17,7 +17,7 @@ use crate::shared_cases::{self, base, base_state, full_state, tiny, Events, Near
 use crate::sheet::Sheet;
 use crate::sheet_cases::{greatest_network, NETWORK_A};
 use crate::state::{NetworkState, MOST_CHECKERS};
-use crate::{card_cases, wide, wide_cases};
+use crate::{card_cases, script_ends, wide_cases};
 
 pub type Page = script::Page<Checkers>;
 type Script = script::Script<Network>;
@@ -44,14 +44,13 @@ impl Subject for Network {
         Sheet::read(&draft.bytes()).map_or(Vec::new(), |sheet| sheet.translate().bytes())
     }
 
-    fn wide(random: &mut Random, units: &[u8]) -> Vec<u8> {
-        let sheet = wide::sheet(random, units);
+    fn like(random: &mut Random, draft: SheetDraft) -> Vec<u8> {
         match random.below(4) {
-            0 => Network::of_sheet(&sheet),
-            1 => card_cases::in_version_3(&Network::of_sheet(&sheet)),
-            2 => generate::network_like(random, sheet).bytes(),
+            0 => Network::of_sheet(&draft),
+            1 => card_cases::in_version_3(&Network::of_sheet(&draft)),
+            2 => generate::network_like(random, draft).bytes(),
             _ => {
-                let network = generate::network_like(random, sheet);
+                let network = generate::network_like(random, draft);
                 network.in_version_3().bytes()
             }
         }
@@ -901,10 +900,13 @@ const CHOSEN: [fn(&mut Script); 11] = [
 pub fn all() -> Vec<Page> {
     let first = Script::of(&[&CHOSEN[..], &[reading, random_cases]].concat());
     let carried_over = Script::of(&CHOSEN);
+    let ends = script_ends::chosen::<Network>();
     [
         vec![first],
         wide_cases::pages::<Network>(),
+        vec![script_ends::page::<Network>()],
         card_cases::pages(&carried_over),
+        vec![card_cases::page_in_version_3(&ends)],
     ]
     .into_iter()
     .flatten()

@@ -1,11 +1,12 @@
 //! The cases of the program `cases`: whole inputs of `watch`. Document 01's sample, inputs at the
-//! edges of what the program takes, and random ones from a fixed seed.
+//! edges of what the program takes, random ones from a fixed seed, and runs at the ends of the range.
 
 use crate::generate::{usual_case, RunCase};
 use crate::machine::MOST_PROGRAM;
 use crate::program::{output, MOST_INPUT};
 use crate::random::Random;
 use crate::run::{write_log, Record};
+use crate::script_ends;
 use crate::sheet::Sheet;
 use crate::sheet_cases::SHEET_A;
 use crate::tally::reach;
@@ -156,6 +157,7 @@ pub fn all() -> Vec<Frame> {
     frames.extend(at_the_edges());
     frames.extend(random());
     frames.extend(wide());
+    frames.extend(script_ends::inputs().into_iter().map(Frame::Bytes));
     frames
 }
 

@@ -35,6 +35,8 @@ pub enum Sort {
     Wide,
     /// Networks of version 3 with long conditions, and with joined ones.
     Card,
+    /// Counters and sums at the ends of the signed range.
+    Ends,
 }
 
 /// A frame, the line that the reference gives for it, and the answer written down by hand.

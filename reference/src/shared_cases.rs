@@ -5,9 +5,10 @@ use crate::draft::SheetDraft;
 use crate::random::Random;
 use crate::run::{write_log, Record};
 use crate::script::{entry, event, exit, refused, Script, Sort};
-use crate::script_frames::{Bench, Field, Rules, Set};
+use crate::script_frames::{state_text, Bench, Field, Rules, Set};
 use crate::shared_clauses::Clause;
 use crate::sheet_cases::LOG_A;
+use crate::state::{Call, Cause, Verdict};
 
 /// What these cases have to be told of sheets or networks.
 pub trait Subject: Rules {
@@ -20,8 +21,8 @@ pub trait Subject: Rules {
 
     /// The bytes of a sheet, or those of its network.
     fn of_sheet(draft: &SheetDraft) -> Vec<u8>;
-    /// The bytes of a random wide sheet with rules for these units, or of such a network.
-    fn wide(random: &mut Random, units: &[u8]) -> Vec<u8>;
+    /// The bytes of a random sheet, or of a network like it: its own, or one that no sheet need give.
+    fn like(random: &mut Random, draft: SheetDraft) -> Vec<u8>;
     /// One triple more is armed for the call at a place, the last so far.
     fn arm(state: &mut Self::State, place: usize, triple: u8);
     /// One of the fields that only these states have, by its number, near what the state holds.
@@ -141,6 +142,42 @@ pub fn edge_state<R: Subject>(script: &mut Script<R>) {
     let line = format!("taken {}", R::EDGE_LINE);
     script.step(&entry(15, 65535, &values), &line);
     script.save();
+}
+
+// ---- Lines of taken events and of runs --------------------------------------------------------
+
+/// The line of a taken event: main state, variables, open calls with the triples armed for each,
+/// position and verdict.
+pub fn taken<R: Subject>(
+    (main, variables): (u8, [i32; 4]),
+    open: &[(Call, Vec<u8>)],
+    position: u32,
+    cause: Option<Cause>,
+) -> String {
+    let mut state = R::State::default();
+    for (place, (call, triples)) in open.iter().enumerate() {
+        R::common_mut(&mut state).calls[place] = *call;
+        for triple in triples {
+            R::arm(&mut state, place, *triple);
+        }
+    }
+    let common = R::common_mut(&mut state);
+    (common.main, common.variables, common.position) = (main, variables, position);
+    common.verdict = cause.map(|cause| Verdict { position, cause });
+    common.open = open.len() as u8;
+    format!("taken{}", state_text::<R>(&state))
+}
+
+/// A run's line: main state, open calls, position and verdict.
+pub fn ran(main: u8, open: usize, position: u32, cause: Option<Cause>) -> String {
+    let dash = |number: Option<u8>| number.map_or("-".to_string(), |n| n.to_string());
+    match cause {
+        None => format!("clean {position} state {main} open {open}"),
+        Some(cause) => {
+            let (state, triple) = (dash(cause.state()), dash(cause.triple()));
+            format!("violated {position} state {state} triple {triple}")
+        }
+    }
 }
 
 // ---- Document 01 ------------------------------------------------------------------------------

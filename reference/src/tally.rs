@@ -1,6 +1,7 @@
 //! Makes many cases from a fixed seed and counts what occurred in them.
 
 use crate::deciding::{self, named, of_log, of_steps};
+use crate::ends::{self, Turned, Written};
 use crate::engine::Engine;
 use crate::generate::{self, RunCase};
 use crate::network::{Network, Version};
@@ -95,6 +96,7 @@ pub fn wanted() -> Vec<String> {
     labels.push("translation: refused 19".into());
     labels.push("translation: done".into());
     labels.extend(wanted_of_version_3());
+    labels.extend(ends::wanted());
     labels
 }
 
@@ -162,6 +164,7 @@ pub fn tally(seed: u64, count: usize) -> Result<Tally, String> {
         count_card_run(&case, &mut tally)?;
         count_network_run(&mut random, &case, &mut tally);
         count_events(&mut random, &case, &mut tally);
+        count_ends(&case, &mut tally);
         for version in [Version::Two, Version::Three] {
             count_translation(&mut random, version, &case.sheet, &mut tally)?;
         }
@@ -229,7 +232,25 @@ fn count_network_run(random: &mut Random, case: &RunCase, tally: &mut Tally) {
     }
     if let Ok(network) = Network::read(&own.network) {
         tally.add_all(named("network", "run", of_log(&network, &own.log)));
+        tally.add_all(Turned::of(&network).of_log(&own.log));
     }
+}
+
+/// Where an end of the range decides, on the sheet and on its networks, in the run and in its events.
+fn count_ends(case: &RunCase, tally: &mut Tally) {
+    let Ok(sheet) = Sheet::read(&case.sheet) else {
+        return;
+    };
+    let network = sheet.translate();
+    tally.add_all(ends_of(&Turned::of(&sheet), &case.log));
+    tally.add_all(ends_of(&Turned::of(&network), &case.log));
+    if let Ok(card) = Network::read(&network.separated().bytes()) {
+        tally.add_all(ends_of(&Turned::of(&card), &case.log));
+    }
+}
+
+fn ends_of<R: Written>(turned: &Turned<R>, log: &[u8]) -> Vec<String> {
+    [turned.of_log(log), turned.of_steps(log)].concat()
 }
 
 // ---- Single events ----------------------------------------------------------------------------

@@ -21,7 +21,7 @@ const TRIES: usize = 16;
 
 /// Where a condition stands, and so what it may name.
 #[derive(Clone, Copy)]
-enum Role {
+pub(crate) enum Role {
     Guard,
     Precondition,
     Postcondition,

@@ -8,9 +8,9 @@ use crate::random::Random;
 use crate::random_script::ask_any;
 use crate::run::{write_log, Record};
 use crate::script::{entry, exit, Page, Script, Sort};
-use crate::script_frames::{state_text, Field, Frame, Own};
-use crate::shared_cases::Subject;
-use crate::state::{Call, Cause, Verdict};
+use crate::script_frames::{Field, Frame, Own};
+use crate::shared_cases::{self, ran, Subject};
+use crate::state::{Call, Cause};
 use crate::wide::{self, FIRST_UNIT, LAST_VALUE, LAST_VARIABLE};
 
 /// Generated sheets or networks of a page.
@@ -108,35 +108,16 @@ impl Open {
 
 /// The line of a taken event: main state, variables, open calls, position and verdict.
 fn taken<R: Subject>(
-    (main, variables): (u8, [i32; 4]),
+    state: (u8, [i32; 4]),
     open: &[Open],
     position: u32,
     cause: Option<Cause>,
 ) -> String {
-    let mut state = R::State::default();
-    for (place, call) in open.iter().enumerate() {
-        R::common_mut(&mut state).calls[place] = call.held();
-        if let Some(triple) = call.triple() {
-            R::arm(&mut state, place, triple);
-        }
-    }
-    let common = R::common_mut(&mut state);
-    (common.main, common.variables, common.position) = (main, variables, position);
-    common.verdict = cause.map(|cause| Verdict { position, cause });
-    common.open = open.len() as u8;
-    format!("taken{}", state_text::<R>(&state))
-}
-
-/// A run's line: main state, open calls, position and verdict.
-fn ran(main: u8, open: usize, position: u32, cause: Option<Cause>) -> String {
-    let dash = |number: Option<u8>| number.map_or("-".to_string(), |n| n.to_string());
-    match cause {
-        None => format!("clean {position} state {main} open {open}"),
-        Some(cause) => {
-            let (state, triple) = (dash(cause.state()), dash(cause.triple()));
-            format!("violated {position} state {state} triple {triple}")
-        }
-    }
+    let calls = open.iter().map(|call| (call.held(), call.triple()));
+    let calls: Vec<(Call, Vec<u8>)> = calls
+        .map(|(call, triple)| (call, triple.into_iter().collect()))
+        .collect();
+    shared_cases::taken::<R>(state, &calls, position, cause)
 }
 
 /// The chosen sheet's fresh state, saved.
@@ -435,7 +416,8 @@ fn random_cases<R: Subject, const SEED: u64>(script: &mut Script<R>) {
 /// The records of a log one by one, some with a twin before them, and as a run.
 fn on_rules<R: Subject>(script: &mut Script<R>, random: &mut Random) {
     let units = wide::units(random);
-    let bytes = R::wide(random, &units);
+    let draft = wide::sheet(random, &units);
+    let bytes = R::like(random, draft);
     let Ok(rules) = R::read(&bytes) else {
         return; // Does not happen: wide drafts are made to be accepted.
     };

@@ -52,6 +52,7 @@ fn every_sort_of_case_occurs_often() {
             (Sort::Checkers, 100),
             (Sort::Nesting, 40),
             (Sort::Wide, 1_000),
+            (Sort::Ends, 500),
             (Sort::Card, 600),
         ],
     );

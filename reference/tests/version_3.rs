@@ -1,6 +1,9 @@
 //! What the committed cases must show of version 3. It is written down here, whatever the generators
 //! make, and looked for in the files that the case programs read.
 
+mod committed;
+
+use committed::{add, assert_shown, committed, lines, Counts};
 use reference::engine::Engine;
 use reference::expr::Condition;
 use reference::frames;
@@ -10,33 +13,6 @@ use reference::pages::PAGE;
 use reference::run::{read_log, run, Record};
 use reference::script_frames::{read_page, Bench, Frame};
 use reference::{sheet_frames, translation_frames};
-use std::collections::BTreeMap;
-use std::fs;
-
-type Counts = BTreeMap<String, usize>;
-
-fn committed(program: &str, file: &str) -> Vec<u8> {
-    let top = concat!(env!("CARGO_MANIFEST_DIR"), "/../crates");
-    fs::read(format!("{top}/{program}/{file}")).expect("the file is there")
-}
-
-/// The lines of a program's output.
-fn lines(program: &str) -> Vec<String> {
-    let text = String::from_utf8(committed(program, "stdout")).expect("it is text");
-    text.lines().map(String::from).collect()
-}
-
-fn assert_shown(counts: &Counts, wanted: &[(&str, usize)]) {
-    for (label, least) in wanted {
-        let found = counts.get(*label).copied().unwrap_or(0);
-        println!("{found:>6}  {label}");
-        assert!(found >= *least, "{label}: {found}");
-    }
-}
-
-fn add(counts: &mut Counts, label: String) {
-    *counts.entry(label).or_insert(0) += 1;
-}
 
 // ---- condition_cases --------------------------------------------------------------------------
 

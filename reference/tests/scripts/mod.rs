@@ -22,7 +22,7 @@ pub fn assert_written_answers<O: Own>(pages: &[Page<O>]) {
 }
 
 /// The most pages that an input has here.
-const FEW: usize = 8;
+const FEW: usize = 10;
 const LONGEST_OUTPUT: usize = 1_500_000;
 
 /// The files of the program are these pages and what carrying them out gives, and not too long.
