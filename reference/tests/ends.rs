@@ -253,7 +253,7 @@ fn of_conditions() {
             }
         }
     }
-    for (kind, least) in [("Value", 60), ("Condition", 20), ("Action", 4)] {
+    for (kind, least) in [("Value", 60), ("Condition", 20), ("Action", 5)] {
         for label in STOPS {
             assert_shown(&counts, &[(&format!("{kind}: {label}"), least)]);
         }
