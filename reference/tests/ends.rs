@@ -4,7 +4,7 @@
 
 mod committed;
 
-use committed::{add, assert_shown, committed, lines, Counts};
+use committed::{add, assert_shown, committed, Counts};
 use reference::draft::SheetDraft;
 use reference::ends::{wanted, Operator, Stop, Turned, Written};
 use reference::expr::{self, Action, Assignment, Condition, Lent, Value};
@@ -241,11 +241,8 @@ fn turned_answer(stop: Stop, frame: &frames::Frame) -> Option<String> {
 
 #[test]
 fn of_conditions() {
-    let frames = frames::read_frames(&committed("condition_cases", "stdin")).expect("frames");
-    let lines = lines("condition_cases");
-    assert_eq!(frames.len(), lines.len());
     let mut counts = Counts::new();
-    for (frame, line) in frames.iter().zip(&lines) {
+    for (frame, line) in &committed::conditions() {
         for (stop, label) in Stop::ALL.into_iter().zip(STOPS) {
             let turned = turned_answer(stop, frame);
             if turned.is_some_and(|turned| turned != *line) {

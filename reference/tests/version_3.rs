@@ -68,11 +68,8 @@ const OF_CONDITIONS: [(&str, usize); 47] = [
 
 #[test]
 fn of_conditions() {
-    let frames = frames::read_frames(&committed("condition_cases", "stdin")).expect("frames");
-    let lines = lines("condition_cases");
-    assert_eq!(frames.len(), lines.len());
     let mut counts = Counts::new();
-    for (frame, line) in frames.iter().zip(&lines) {
+    for (frame, line) in &committed::conditions() {
         let (name, judged) = match frame.kind {
             frames::Kind::Condition => ("condition", ""),
             frames::Kind::Value => ("value", ""),

@@ -1,5 +1,6 @@
 //! The committed files of the case programs, and what is counted in them.
 
+use reference::frames::{read_frames, Frame};
 use std::collections::BTreeMap;
 use std::fs;
 
@@ -27,4 +28,12 @@ pub fn assert_shown(counts: &Counts, wanted: &[(&str, usize)]) {
 
 pub fn add(counts: &mut Counts, label: String) {
     *counts.entry(label).or_insert(0) += 1;
+}
+
+/// The cases of `condition_cases`, each with its line.
+pub fn conditions() -> Vec<(Frame, String)> {
+    let frames = read_frames(&committed("condition_cases", "stdin")).expect("frames");
+    let lines = lines("condition_cases");
+    assert_eq!(frames.len(), lines.len());
+    frames.into_iter().zip(lines).collect()
 }
