@@ -1,22 +1,22 @@
 -- From where a whole condition, value or action ends to the operations' answers. Assumes nothing.
 use mathlib.Core.Path.{_≡_, refl, sym, ap, _∙_}
-use mathlib.Core.Bool.{Bool, true, false, not, cond, _&&_}
+use mathlib.Core.Bool.{Bool, true, false, not, cond, _&&_, and-true, and-false}
 use mathlib.Core.Option.{Option, none, some}
 use mathlib.Core.List.{List, [], _∷_}
 use Prim.Native.Nat.{ℕ, _+_, _≤_, _<_}
 use native.Mathlib.Omega.{arith}
-use borrow.Author.Tests.{leb-true, le-leb, lt-leb, eq-eqb, ne-eqb, eqb-true, eqb-false}
-use lib.Dec.{leb, eqb}
-use lib.ListN.{length, drop, length-drop}
+use borrow.Author.Tests.{ltb-true, ltb-false, leb-true, le-leb, lt-leb, eq-eqb, ne-eqb, eqb-true, eqb-false}
+use lib.Dec.{leb, ltb, eqb}
+use lib.ListN.{length, drop, length-drop, drop-of-length-le}
 use lib.Seq.{drop-length}
 use Rattle.condition.specs.declared.Lent.{Lent}
-use Rattle.condition.specs.Tree.{conditionNames, actionNames, isMonitor, isAtEntry}
-use Rattle.condition.specs.Parse.{Parsed, malformed, parsed, Reader, exactly, parseCondition, parseValue, parseAction}
+use Rattle.condition.specs.Tree.{Condition, conditionNames, actionNames, isMonitor, isAtEntry}
+use Rattle.condition.specs.Parse.{Parsed, malformed, parsed, Reader, exactly, conditionFrom, parseCondition, parseValue, parseAction}
 use Rattle.condition.specs.Meaning.{Environment, lent, holds}
-use Rattle.condition.specs.Answer.{refused, given, sized, longest, actionSized, longestAction, conditionOutcome, valueOutcome, runOutcome, actionOutcome, whether, conditionWhich, actionWhich}
-use Rattle.condition.specs.Walk.{bit, Ends, Skips, Means, conditionReader, valueReader, conditionBit, valueWord}
+use Rattle.condition.specs.Answer.{refused, given, sized, longest, actionSized, longestAction, conditionOutcome, valueOutcome, truthOf, holdsFrom, runOutcome, actionOutcome, whether, conditionWhich, actionWhich}
+use Rattle.condition.specs.Walk.{bit, Ends, Skips, Means, conditionReader, valueReader, conditionBit, valueWord, EvaluatesCondition, EvaluatesValue}
+use Rattle.condition.proofs.Walking.{condition-nil}
 use Rattle.condition.proofs.Naming.{unkept, unmonitored, entry-narrow, monitor-narrow, action-entry-narrow}
-use Rattle.condition.proofs.Evaluating.{EvaluatesCondition, EvaluatesValue}
 
 pub sized-length : (s : List ℕ) → sized s ≡ true → length s ≤ longest
 sized-length s e = go (leb 1 (length s)) (leb (length s) longest) refl e
@@ -85,6 +85,38 @@ module _ (s : List ℕ) (E : Environment) where
     pub value-malformed : EvaluatesValue E s 0 q w → (q ≡ length s → ⊥) → refused 5 ≡ valueOutcome s E
     unfolding valueOutcome parseValue
     value-malformed x h = rw (z, elsewhere (valueReader (lent E)) s q (x .skips) h)
+
+-- at a place, what the bytes begin with
+truth-there : (E : Environment) (s : List ℕ) (q w : ℕ) (p : Parsed Condition) → Ends s q p → Means (conditionBit E) w p → (eqb w 1 && leb q (length s)) ≡ truthOf E p
+truth-there E s q w malformed e m = rw (lt-leb q (length s) (omega arith)) (and-false (eqb w 1))
+truth-there E s q w (parsed c rest) e m = rw (bit-one (holds c E) w m, le-leb q (length s) (e .1)) (and-true (holds c E))
+
+abbrev placed : List ℕ → ℕ → Bool
+placed s at = ltb at (length s) && leb (length s) 65535
+
+module _ (s : List ℕ) (at : ℕ) where
+  -- short enough, and not past the end
+  pub placed-walkable : placed s at ≡ true → (length s ≤ 65535) × (at ≤ length s + 1)
+  placed-walkable e = go (ltb at (length s)) refl (leb (length s) 65535) refl e
+    where
+      go : (a : Bool) → ltb at (length s) ≡ a → (b : Bool) → leb (length s) 65535 ≡ b → (a && b) ≡ true → (length s ≤ 65535) × (at ≤ length s + 1)
+      go true f true g e = (leb-true (length s) 65535 g, omega (arith, ltb-true at (length s) f))
+      go true f false g e = absurd (omega (arith, ap bit e))
+      go false f b g e = absurd (omega (arith, ap bit e))
+
+module _ (s : List ℕ) (at : ℕ) (E : Environment) where
+  pub place-none : placed s at ≡ false → false ≡ holdsFrom s at E
+  unfolding holdsFrom
+  place-none e = go (ltb at (length s)) refl (leb (length s) 65535) refl e
+    where
+      go : (a : Bool) → ltb at (length s) ≡ a → (b : Bool) → leb (length s) 65535 ≡ b → (a && b) ≡ false → false ≡ (b && truthOf E (conditionFrom (length s) (lent E) (drop at s)))
+      go a f false g e = refl
+      go true f true g e = absurd (omega (arith, ap bit e))
+      go false f true g e = rw (drop-of-length-le s (ltb-false at (length s) f), condition-nil (lent E) (length s))
+
+  pub place-answer : placed s at ≡ true → (q w : ℕ) → EvaluatesCondition E s at q w → (eqb w 1 && leb q (length s)) ≡ holdsFrom s at E
+  unfolding holdsFrom
+  place-answer e q w x = rw (le-leb (length s) 65535 (placed-walkable s at e .0)) (truth-there E s q w (conditionFrom (length s) (lent E) (drop at s)) (x .skips .ends (length s) (omega arith)) (x .means (length s) (omega arith)))
 
 -- whether the bytes are a condition at all
 module _ (L : Lent) (s : List ℕ) where

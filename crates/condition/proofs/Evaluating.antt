@@ -1,18 +1,19 @@
 -- What a condition or a value means, from what its operands mean. Assumes nothing.
 use mathlib.Core.Path.{_≡_, refl, sym, ap, subst, _∙_}
 use mathlib.Core.Bool.{Bool, true, false, not}
-use mathlib.Core.Logic.{_⊎_}
+use mathlib.Core.Logic.{_⊎_, inl, inr, ⊎-elim}
 use mathlib.Core.List.{List}
 use Prim.Native.Nat.{ℕ, _+_, _-_, _/_, _%_, _^_, _≤_, _<_}
 use native.Mathlib.Omega.{arith}
 use borrow.Author.Tests.{leb-true, leb-false, ltb-true, ltb-false}
+use denote.Ref.{RefT}
 use lib.Dec.{leb, ltb}
 use lib.ListN.{length, getD, drop}
 use Rattle.condition.specs.Word.{plusWord, minusWord, lessWord, equalWord, withinWord}
 use Rattle.condition.specs.Tree.{Variable, program, monitor, atEntry, Condition, negation, both, either, less, equal, within, Value, plus, minus, choose}
 use Rattle.condition.specs.Parse.{Parsed, malformed, parsed, Reader, andThen, one, two, three, isLent, literal, numbered, ConditionOperator, opTrue, opNot, opAnd, opOr, opLess, opEqual, opWithin, noCondition, conditionOperator, conditionWith, ValueOperator, opConstant, opProgram, opMonitor, opAtEntry, opPlus, opMinus, opChoose, noValue, valueOperator, valueWith}
 use Rattle.condition.specs.Meaning.{Environment, lent, valueOf, holds, word}
-use Rattle.condition.specs.Walk.{bit, Ends, Skips, Gives, Means, Evaluates, conditionReader, valueReader, conditionBit, valueWord, Judged, Packed, literalEnd, variableEnd, literalAt, variableAt, negated, WordTried, LeafEvaluated}
+use Rattle.condition.specs.Walk.{bit, Ends, Skips, Gives, Means, conditionReader, valueReader, conditionBit, valueWord, EvaluatesCondition, EvaluatesValue, bank, banks, Judged, Packed, literalEnd, variableEnd, literalAt, variableAt, negated, WordTried, LeafEvaluated}
 use Rattle.condition.proofs.Walking.{condition-opens, value-opens, none-past, skips-past, condition-nil, value-nil, no-value, none-short, skips-short, tried-none, either-way, literal-at, literal-short, numbered-at, numbered-short, condition-two, value-two, skips-true, skips-not, skips-and, skips-or, skips-within, skips-literal, skips-variable, skips-choose, skips-no-condition, skips-no-value}
 
 -- from what is known of the parts to what is known of the whole
@@ -55,12 +56,6 @@ bit-false false u e f = refl
 bit-negated : (b : Bool) → bit (negated (bit b)) ≡ bit (not b)
 bit-negated true = refl
 bit-negated false = refl
-
-abbrev pub EvaluatesCondition : Environment → List ℕ → ℕ → ℕ → ℕ → Type 0
-EvaluatesCondition E s at r w = Evaluates (conditionReader (lent E)) (conditionBit E) s at r w
-
-abbrev pub EvaluatesValue : Environment → List ℕ → ℕ → ℕ → ℕ → Type 0
-EvaluatesValue E s at r w = Evaluates (valueReader (lent E)) (valueWord E) s at r w
 
 -- a result as one number
 module _ (E : Environment) (s : List ℕ) (at : ℕ) where
@@ -220,17 +215,42 @@ module _ (E : Environment) (s : List ℕ) (at : ℕ) (h : at < length s) where
       let o = valueOperator (getD s at 0) in
       value-evaluates o (length s + 1) 0 refl (skips-short (lent E) s at h g) (λ k d. none-short (lent E) s at h (Means (valueWord E) 0) tt o g k)
 
--- what is read without a call
+-- what is read without a call, o the byte at the place
 module _ (E : Environment) (s : List ℕ) (at : ℕ) where
-  pub leaf-short : length s ≤ at + 1 → LeafEvaluated E s at 0
+  pub leaf-short : length s ≤ at + 1 → LeafEvaluated E s at 0 0
   leaf-short g = tried-none (λ n. value-short E s at (n .0) g)
 
-  pub leaf-none : (getD s at 0 ≡ 16 → ⊥) → (getD s at 0 ≡ 17 → ⊥) → (getD s at 0 ≡ 18 → ⊥) → (getD s at 0 ≡ 19 → ⊥) → LeafEvaluated E s at 0
-  leaf-none e f g i = tried-none (λ n. no-value-there E s at (n .0) (no-value (getD s at 0) e f g i (n .1 .0) (n .1 .1 .0) (n .1 .1 .1)))
+  pub leaf-none : (o : ℕ) → o ≡ getD s at 0 → (o ≡ 16 → ⊥) → (o ≡ 17 → ⊥) → (o ≡ 18 → ⊥) → (o ≡ 19 → ⊥) → LeafEvaluated E s at 0 0
+  leaf-none o e f g i j = tried-none (λ n. no-value-there E s at (n .0) (no-value (getD s at 0) (rw e at f) (rw e at g) (rw e at i) (rw e at j) (n .1 .0) (n .1 .1 .0) (n .1 .1 .1)))
 
-  pub as-leaf : (next w r : ℕ) → WordTried s next w r → EvaluatesValue E s at next w → LeafEvaluated E s at r
-  as-leaf next w r t x = record { found = λ f. as-packed E s at next w r (t .found f) x; none = λ z n. rw (t .none z .0, t .none z .1) at x }
+  as-leaf : (next w q v : ℕ) → WordTried s next w q v → EvaluatesValue E s at next w → LeafEvaluated E s at q v
+  as-leaf next w q v t x = record { found = λ f. rw (t .found f .0, t .found f .1) x; none = λ z n. rw (t .none z .0, t .none z .1) at x }
+
+  pub leaf-literal : at < length s → (o q v : ℕ) → o ≡ getD s at 0 → o ≡ 16 → WordTried s (literalEnd s at) (literalAt s at) q v → LeafEvaluated E s at q v
+  leaf-literal h o q v e f t = as-leaf (literalEnd s at) (literalAt s at) q v t (evaluates-literal E s at h (sym e ∙ f))
 
   -- an operand that was read by a call or without
-  pub operand : {A B : Type 0} (l a : ℕ) → LeafEvaluated E s at l → A ⊎ B → (A → EvaluatesValue E s at (a / 2 ^ 32) (a % 2 ^ 32)) → (B → (l ≡ 0 → ⊥) × (a ≡ l)) → EvaluatesValue E s at (a / 2 ^ 32) (a % 2 ^ 32)
-  operand l a x c f g = either-way (λ (n : ℕ). EvaluatesValue E s at (n / 2 ^ 32) (n % 2 ^ 32)) l a x c f g
+  pub operand : {A B T : Type 0} (l a : T) (next word : T → ℕ) → LeafEvaluated E s at (next l) (word l) → A ⊎ B → (A → EvaluatesValue E s at (next a) (word a)) → (B → (next l ≡ 0 → ⊥) × (a ≡ l)) → EvaluatesValue E s at (next a) (word a)
+  operand l a next word x c f g = either-way (λ t. EvaluatesValue E s at (next t) (word t)) next l a x c f g
+
+one-of-three : (o : ℕ) → 17 ≤ o → o ≤ 19 → (o ≡ 17) ⊎ ((o ≡ 18) ⊎ (o ≡ 19))
+one-of-three o i j = go (ltb 17 o) refl (ltb 18 o) refl
+  where
+    go : (a : Bool) → ltb 17 o ≡ a → (b : Bool) → ltb 18 o ≡ b → (o ≡ 17) ⊎ ((o ≡ 18) ⊎ (o ≡ 19))
+    go false e b f = let h = ltb-false 17 o e in inl (omega arith)
+    go true e false f = let h = ltb-true 17 o e in let g = ltb-false 18 o f in inr (inl (omega arith))
+    go true e true f = let h = ltb-true 18 o f in inr (inr (omega arith))
+
+-- a variable's kind is the slice at its operator's place among three
+module _ (l : List (RefT (List ℕ))) (s : List ℕ) (at : ℕ) (h : at < length s) (q v : ℕ) where
+  abbrev OfBank : ℕ → Type 0
+  OfBank i = WordTried s (variableEnd s at (length (bank l i))) (variableAt s at (bank l i)) q v
+
+  pub leaf-variable : (o : ℕ) → o ≡ getD s at 0 → 17 ≤ o → o ≤ 19 → OfBank (o - 17) → LeafEvaluated (banks l) s at q v
+  unfolding banks
+  leaf-variable o e i j t =
+      let of : (n : ℕ) → o ≡ n → OfBank (n - 17) = λ n f. subst (λ (m : ℕ). OfBank (m - 17)) f t in
+      ⊎-elim (λ f. as-leaf (banks l) s at (variableEnd s at (length (bank l 0))) (variableAt s at (bank l 0)) q v (of 17 f) (evaluates-program (banks l) s at h (sym e ∙ f)))
+      (⊎-elim (λ f. as-leaf (banks l) s at (variableEnd s at (length (bank l 1))) (variableAt s at (bank l 1)) q v (of 18 f) (evaluates-monitor (banks l) s at h (sym e ∙ f)))
+      (λ f. as-leaf (banks l) s at (variableEnd s at (length (bank l 2))) (variableAt s at (bank l 2)) q v (of 19 f) (evaluates-entry (banks l) s at h (sym e ∙ f))))
+      (one-of-three o i j)

@@ -4,6 +4,7 @@ pub mod Ends
 pub mod Evaluating
 pub mod Naming
 pub mod Parsing
+pub mod Placed
 pub mod Rows
 pub mod Running
 pub mod Walking

@@ -15,9 +15,9 @@ use Rattle.condition.specs.Tree.{Assignment}
 use Rattle.condition.specs.Parse.{Parsed, malformed, parsed, one, assignmentFrom, prefixed, thenRun, runFrom, parseAction}
 use Rattle.condition.specs.Meaning.{Environment, environment, lent, word, assigned, performed}
 use Rattle.condition.specs.Answer.{Outcome, judged, runOutcome, actionPaper, whether}
-use Rattle.condition.specs.Walk.{Ends, Skips, Gives, valueReader, SkipsAssignment, Assigns}
+use Rattle.condition.specs.Walk.{Ends, Skips, Gives, valueReader, EvaluatesValue, SkipsAssignment, Assigns}
 use Rattle.condition.proofs.Walking.{open-at, ends-one}
-use Rattle.condition.proofs.Evaluating.{EvaluatesValue, gives-one, gives-any}
+use Rattle.condition.proofs.Evaluating.{gives-one, gives-any}
 
 module _ (L : Lent) (s : List ℕ) (at : ℕ) (h : at < length s) where
   -- the number of the variable is read first
@@ -159,15 +159,13 @@ module _ (programs : List ℕ) (count : ℕ) (kept : List ℕ) where
     pub carried-bad : length s ≤ at → (at ≡ length s → ⊥) → record { answer = action.Refused 5; variables = before } ≡ actionPaper count before (runOutcome s (upon before))
     carried-bad h n = rw (← left-bad (lent (upon before)) s at (outcome-upon present) (runOutcome s (upon before)) (x .left) h n)
 
-pub below-front : (M before : List ℕ) (count t : ℕ) → M ≡ take count before → t < length M → t < length before
-below-front M before count t e i = omega (arith, ap length e ∙ length-take count before)
+-- four variables, of which the first are the action's, and the number t of the one that is assigned
+module _ (P K s : List ℕ) (at count : ℕ) (before : List ℕ) (four : length before ≡ 4) (t : ℕ) (h : at < length s) (f : t ≡ getD s at 0) where
+  lent-few : length (take count before) ≡ min count 4
+  lent-few = length-take count before ∙ ap (min count) four
 
--- the first variables of an array, lent as M, and the number t of the one that is assigned
-module _ (P M K s : List ℕ) (at count : ℕ) (before : List ℕ) (t : ℕ) (h : at < length s) (e : M ≡ take count before) (f : t ≡ getD s at 0) where
-  pub assigns-front : (q w : ℕ) → t < length M → EvaluatesValue (environment P M K) s (at + 1) q w → Assigns (environment P (take count before) K) s at q count before (set before t w)
-  assigns-front q w i x =
-      rw f
-      (assigns (environment P (take count before) K) s at count before h q w (rw (e, f) at i) (omega (arith, length-take count before)) (rw e at x))
+  pub assigns-front : (q w : ℕ) → t < min count 4 → EvaluatesValue (environment P (take count before) K) s (at + 1) q w → Assigns (environment P (take count before) K) s at q count before (set before t w)
+  assigns-front q w i x = rw f (assigns (environment P (take count before) K) s at count before h q w (omega (arith, lent-few)) (omega (arith, lent-few)) x)
 
-  pub assigns-past : length M ≤ t → Assigns (environment P (take count before) K) s at (length s + 1) count before before
-  assigns-past i = assigns-none (environment P (take count before) K) s at count before h (rw (e, f) at i)
+  pub assigns-past : min count 4 ≤ t → Assigns (environment P (take count before) K) s at (length s + 1) count before before
+  assigns-past i = assigns-none (environment P (take count before) K) s at count before h (omega (arith, lent-few))

@@ -192,8 +192,8 @@ pub tried-none : {F N : Type 0} → N → Tried F N 0
 tried-none x = record { found = λ f. absurd (f refl); none = λ z. x }
 
 -- of an operand, what holds where a call gave it and where it was found
-pub either-way : {A B N : Type 0} (P : ℕ → Type 0) (l a : ℕ) → Tried (P l) N l → A ⊎ B → (A → P a) → (B → (l ≡ 0 → ⊥) × (a ≡ l)) → P a
-either-way P l a x c f g = ⊎-elim f (λ w. subst P (sym (g w .1)) (x .found (g w .0))) c
+pub either-way : {A B N T : Type 0} (P : T → Type 0) (next : T → ℕ) (l a : T) → Tried (P l) N (next l) → A ⊎ B → (A → P a) → (B → (next l ≡ 0 → ⊥) × (a ≡ l)) → P a
+either-way P next l a x c f g = ⊎-elim f (λ w. subst P (sym (g w .1)) (x .found (g w .0))) c
 
 -- constants and variables at a place
 open-to : (s : List ℕ) (a b : ℕ) → a + 1 ≡ b → a < length s → drop a s ≡ getD s a 0 ∷ drop b s
@@ -284,4 +284,4 @@ module _ (L : Lent) (s : List ℕ) (at : ℕ) where
 
   -- an operand that was passed over by a call or without
   pub operand : {A B : Type 0} (l a : ℕ) → LeafSkipped L s at l → A ⊎ B → (A → Skips (valueReader L) s at a) → (B → (l ≡ 0 → ⊥) × (a ≡ l)) → Skips (valueReader L) s at a
-  operand l a x c f g = either-way (Skips (valueReader L) s at) l a x c f g
+  operand l a x c f g = either-way (Skips (valueReader L) s at) (λ (n : ℕ). n) l a x c f g

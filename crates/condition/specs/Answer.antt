@@ -2,9 +2,9 @@
 use mathlib.Core.Bool.{Bool, false, cond, _&&_}
 use mathlib.Core.Option.{Option, none, some}
 use mathlib.Core.List.{List, _++_}
-use Prim.Native.Nat.{ℕ}
+use Prim.Native.Nat.{ℕ, _+_}
 use lib.Dec.{leb}
-use lib.ListN.{length, drop}
+use lib.ListN.{length, getD, take, drop}
 use Rattle.condition.specs.declared.Lent.{Lent}
 use Rattle.condition.specs.declared.ConditionAnswer.{ConditionAnswer}
 use Rattle.condition.specs.declared.ConditionAnswer.the-variants as condition
@@ -13,7 +13,7 @@ use Rattle.condition.specs.declared.ValueAnswer.the-variants as value
 use Rattle.condition.specs.declared.ActionAnswer.the-variants as action
 use Rattle.condition.specs.declared.Performed.{Performed}
 use Rattle.condition.specs.Tree.{Condition, Assignment}
-use Rattle.condition.specs.Parse.{parseCondition, parseValue, parseAction}
+use Rattle.condition.specs.Parse.{Parsed, malformed, parsed, conditionFrom, parseCondition, parseValue, parseAction}
 use Rattle.condition.specs.Meaning.{Environment, lent, holds, word, performed}
 
 -- What the paper answers: the number of a refusal, or what is given.
@@ -47,6 +47,15 @@ conditionOutcome s E = cond (sized s) (judged (parseCondition (lent E) s) (λ c.
 unfoldable pub valueOutcome : List ℕ → Environment → Outcome ℕ
 valueOutcome s E = cond (sized s) (judged (parseValue (lent E) s) (λ e. word e E)) (refused 4)
 
+-- What was found at the front of some bytes is a condition, and holds.
+abbrev pub truthOf : Environment → Parsed Condition → Bool
+truthOf E malformed = false
+truthOf E (parsed c rest) = holds c E
+
+-- Whether the bytes from a place on, of as many as a sheet or network has at most, begin with a condition that holds, whatever stands behind it.
+unfoldable pub holdsFrom : List ℕ → ℕ → Environment → Bool
+holdsFrom s at E = leb (length s) 65535 && truthOf E (conditionFrom (length s) (lent E) (drop at s))
+
 -- The same of an action, which may be empty: the monitor variables afterwards.
 unfoldable pub runOutcome : List ℕ → Environment → Outcome (List ℕ)
 runOutcome s E = judged (parseAction (lent E) s) (λ a. performed a E)
@@ -67,6 +76,10 @@ valuePaper (value.Refused n) = refused n
 abbrev pub actionPaper : ℕ → List ℕ → Outcome (List ℕ) → Performed
 actionPaper count variables (refused n) = record { answer = action.Refused n; variables = variables }
 actionPaper count variables (given l) = record { answer = action.Done; variables = l ++ drop count variables }
+
+-- The text whose length byte stands at a place, cut short where the bytes end.
+abbrev pub textFrom : List ℕ → ℕ → List ℕ
+textFrom s at = take (getD s at 0) (drop (at + 1) s)
 
 -- Whether there is one, and it passes a test.
 abbrev pub whether : {A : Type 0} → Option A → (A → Bool) → Bool

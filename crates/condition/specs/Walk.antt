@@ -1,15 +1,18 @@
 -- What the private functions that walk over the bytes promise. Places in the bytes stand for what is left of them.
 use mathlib.Core.Path.{_≡_}
 use mathlib.Core.Bool.{Bool, true, false, cond}
-use mathlib.Core.List.{List}
+use mathlib.Core.List.{List, []}
+use denote.Ref.{RefT, now}
 use Prim.Native.Nat.{ℕ, _+_, _-_, _/_, _%_, _^_, _≤_, _<_}
 use lib.Dec.{leb, ltb, eqb}
 use lib.ListN.{length, getD, set, drop}
 use Rattle.condition.specs.declared.Lent.{Lent}
+use Rattle.condition.specs.declared.ActionAnswer.the-variants as action
+use Rattle.condition.specs.declared.Performed.{Performed}
 use Rattle.condition.specs.Word.{bigEndian}
 use Rattle.condition.specs.Tree.{Condition, Value}
 use Rattle.condition.specs.Parse.{Parsed, malformed, parsed, Reader, conditionFrom, valueFrom, assignmentFrom}
-use Rattle.condition.specs.Meaning.{Environment, lent, holds, word}
+use Rattle.condition.specs.Meaning.{Environment, environment, lent, holds, word}
 
 abbrev pub bit : Bool → ℕ
 bit true = 1
@@ -55,6 +58,20 @@ conditionBit E c = bit (holds c E)
 abbrev pub valueWord : Environment → Value → ℕ
 valueWord E e = word e E
 
+-- The environment of three slices that are lent in one array: present program values, monitor variables, values kept at entry.
+abbrev pub bank : List (RefT (List ℕ)) → ℕ → List ℕ
+bank l i = now (getD l i (record { ptr = (0, 0); name = 0; now = [] }))
+
+unfoldable pub banks : List (RefT (List ℕ)) → Environment
+banks l = environment (bank l 0) (bank l 1) (bank l 2)
+
+-- the condition, and the value, at a place
+abbrev pub EvaluatesCondition : Environment → List ℕ → ℕ → ℕ → ℕ → Type 0
+EvaluatesCondition E s at r w = Evaluates (conditionReader (lent E)) (conditionBit E) s at r w
+
+abbrev pub EvaluatesValue : Environment → List ℕ → ℕ → ℕ → ℕ → Type 0
+EvaluatesValue E s at r w = Evaluates (valueReader (lent E)) (valueWord E) s at r w
+
 -- a place and a truth, a place and a word, in one number
 pub record Judged (next : ℕ) (b : Bool) (r : ℕ) : Type 0 where
   pub place : r / 2 ≡ next
@@ -83,12 +100,12 @@ pub record Tried (Found None : Type 0) (r : ℕ) : Type 0 where
   pub found : (r ≡ 0 → ⊥) → Found
   pub none : r ≡ 0 → None
 
--- a place, and a place and a word, which are one past the end, and 0, where there are none
+-- a place, and an operand's place and word, which are one past the end, and 0, where there are none
 abbrev pub EndTried : List ℕ → ℕ → ℕ → Type 0
 EndTried s next r = Tried (r ≡ next) (next ≡ length s + 1) r
 
-abbrev pub WordTried : List ℕ → ℕ → ℕ → ℕ → Type 0
-WordTried s next w r = Tried (Packed next w r) ((next ≡ length s + 1) × (w ≡ 0)) r
+abbrev pub WordTried : List ℕ → ℕ → ℕ → ℕ → ℕ → Type 0
+WordTried s next w q v = Tried ((q ≡ next) × (v ≡ w)) ((next ≡ length s + 1) × (w ≡ 0)) q
 
 -- There is a byte at the place, and it is not the operator of a value that has operands.
 abbrev pub NoOperands : List ℕ → ℕ → Type 0
@@ -98,8 +115,8 @@ NoOperands s at = (at < length s) × ((getD s at 0 ≡ 20 → ⊥) × ((getD s a
 abbrev pub LeafSkipped : Lent → List ℕ → ℕ → ℕ → Type 0
 LeafSkipped L s at r = Tried (Skips (valueReader L) s at r) (NoOperands s at → Skips (valueReader L) s at (length s + 1)) r
 
-abbrev pub LeafEvaluated : Environment → List ℕ → ℕ → ℕ → Type 0
-LeafEvaluated E s at r = Tried (Evaluates (valueReader (lent E)) (valueWord E) s at (r / 2 ^ 32) (r % 2 ^ 32)) (NoOperands s at → Evaluates (valueReader (lent E)) (valueWord E) s at (length s + 1) 0) r
+abbrev pub LeafEvaluated : Environment → List ℕ → ℕ → ℕ → ℕ → Type 0
+LeafEvaluated E s at q w = Tried (EvaluatesValue E s at q w) (NoOperands s at → EvaluatesValue E s at (length s + 1) 0) q
 
 abbrev pub negated : ℕ → Bool
 negated n = eqb n 0
@@ -116,3 +133,7 @@ pub record Assigns (E : Environment) (s : List ℕ) (at r count : ℕ) (before a
   pub long : length after ≡ length before
   pub rest : drop count after ≡ drop count before
   pub means : (k : ℕ) → length s - (at + 1) ≤ k → Gives (λ a. (after ≡ set before (a .target) (word (a .source) E)) × (a .target < count)) (assignmentFrom k (lent E) (drop at s))
+
+-- the answer for a run that was well formed or not, and the variables that it leaves
+abbrev pub ran : Bool → List ℕ → Performed
+ran formed variables = record { answer = cond formed action.Done (action.Refused 5); variables = variables }

@@ -2,86 +2,81 @@
 
 ghost use mathlib.Core.Path.{_≡_};
 ghost use mathlib.Core.Bool.{true};
-ghost use Prim.Native.Nat.{_+_, _≤_, _<_};
+ghost use Prim.Native.Nat.{_+_, _/_, _%_, _^_, _≤_, _<_};
 ghost use lib.ListN.{length, take};
 ghost use Rattle.condition.specs.Parse.{parseAction};
 ghost use Rattle.condition.specs.Meaning.{environment};
 ghost use Rattle.condition.specs.Answer.{actionPaper, runOutcome, whether};
-ghost use Rattle.condition.specs.Walk.{SkipsAssignment, Assigns};
-use crate::ActionAnswer;
+ghost use Rattle.condition.specs.Walk.{EvaluatesValue, SkipsAssignment, Assigns, ran};
 use crate::Lent;
-use crate::Performed;
 use crate::evaluate;
 use crate::front;
 use crate::skip;
 use crate::word::wide;
 
-// The place behind an assignment, and the variables after it.
-pub(crate) struct Step {
-    pub next: usize,
-    pub variables: [u32; 4],
-}
-
-// Carries out a whole run, in order; a malformed one changes no variable.
-pub(crate) fn run(
+// Carries out a whole run, in order: whether it is well formed. A malformed one changes no variable.
+pub(crate) fn run<'a>(
     s: &[u8],
-    program: &[u32],
-    variables: [u32; 4],
+    program: &'a [u32],
+    variables: &mut [u32; 4],
     count: usize,
-    kept: &[u32],
-) -> Performed
+    kept: &'a [u32],
+) -> bool
     requires { ⌜ length (now s) ≤ 65535 ⌝ }
-    ensures { λ r. ⌜ r ≡ actionPaper count variables (runOutcome (now (s .entry)) (environment (now (program .entry)) (take count variables) (now (kept .entry)))) ⌝ }
+    ensures { λ r. ⌜ ran r (now (variables .exit)) ≡ actionPaper count (now (variables .entry)) (runOutcome (now (s .entry)) (environment (now (program .entry)) (take count (now (variables .entry))) (now (kept .entry)))) ⌝ }
 {
-    let mut present = variables;
+    let before = *variables;
     let mut at = 0;
     while at < s.len() {
-        let step = assign(s, at, program, present, count, kept);
-        at = step.next;
-        present = step.variables;
+        at = assign(s, at, program, variables, count, kept);
     }
     if at == s.len() {
-        Performed {
-            answer: ActionAnswer::Done,
-            variables: present,
-        }
+        true
     } else {
-        Performed {
-            answer: ActionAnswer::Refused(5),
-            variables,
-        }
+        *variables = before;
+        false
     }
 }
 
-// Carries out the assignment at a place.
-fn assign(
+// Carries out the assignment at a place: the place behind it.
+fn assign<'a>(
     s: &[u8],
     at: usize,
-    program: &[u32],
-    variables: [u32; 4],
+    program: &'a [u32],
+    variables: &mut [u32; 4],
     count: usize,
-    kept: &[u32],
-) -> Step
+    kept: &'a [u32],
+) -> usize
     requires { ⌜ (length (now s) ≤ 65535) × (at < length (now s)) ⌝ }
-    ensures { λ r. ⌜ Assigns (environment (now (program .entry)) (take count variables) (now (kept .entry))) (now (s .entry)) at (r .next) count variables (r .variables) ⌝ }
+    ensures { λ r. ⌜ Assigns (environment (now (program .entry)) (take count (now (variables .entry))) (now (kept .entry))) (now (s .entry)) at r count (now (variables .entry)) (now (variables .exit)) ⌝ }
 {
     let target = wide(s[at]);
-    let monitor = front(&variables, count);
-    let lent = monitor.len();
-    let r = evaluate::value(&s, at + 1, &program, &monitor, &kept);
-    if target < lent {
-        let mut after = variables;
-        after[target] = (r % 4294967296) as u32;
-        Step {
-            next: r / 4294967296,
-            variables: after,
-        }
-    } else {
-        Step {
-            next: s.len() + 1,
-            variables,
-        }
+    let r = value(s, at + 1, program, variables, count, kept);
+    if target < count {} else {
+        return s.len() + 1;
     }
+    if target < 4 {} else {
+        return s.len() + 1;
+    }
+    variables[target] = (r % 4294967296) as u32;
+    r / 4294967296
+}
+
+// The value at a place, over the first `count` of four monitor variables.
+fn value<'a>(
+    s: &[u8],
+    at: usize,
+    program: &'a [u32],
+    variables: &'a [u32; 4],
+    count: usize,
+    kept: &'a [u32],
+) -> usize
+    requires { ⌜ (length (now s) ≤ 65535) × (at ≤ length (now s)) ⌝ }
+    ensures { λ r. ⌜ (length (now (variables .entry)) ≡ 4) × EvaluatesValue (environment (now (program .entry)) (take count (now (variables .entry))) (now (kept .entry))) (now (s .entry)) at (r / 2 ^ 32) (r % 2 ^ 32) ⌝ }
+{
+    let monitor = front(&variables[..], count);
+    let e = [program, monitor, kept];
+    evaluate::value(&s, at, &e)
 }
 
 // Whether the bytes are exactly a run of assignments.

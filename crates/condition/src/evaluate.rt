@@ -1,22 +1,28 @@
 // Evaluating conditions and values over operator-first bytes. A result holds the place behind what
 // was read, one past the end where it is malformed, and its truth or word beside it in one number.
-// p, m and k are the lent values: present program values, monitor variables, values kept at entry.
+// e lends the values: present program values, monitor variables, values kept at entry.
 
 ghost use mathlib.Core.Path.{_≡_};
 ghost use Prim.Native.Nat.{_+_, _/_, _%_, _^_, _≤_, _<_};
-ghost use lib.ListN.{length, getD};
+ghost use lib.ListN.{length};
 ghost use Rattle.condition.specs.Word.{plusWord, minusWord, lessWord, equalWord, withinWord};
-ghost use Rattle.condition.specs.Meaning.{environment, lent};
-ghost use Rattle.condition.specs.Walk.{Evaluates, conditionReader, valueReader, conditionBit, valueWord, Judged, Packed, literalEnd, variableEnd, literalAt, variableAt, negated, WordTried, LeafEvaluated};
+ghost use Rattle.condition.specs.Meaning.{lent};
+ghost use Rattle.condition.specs.Walk.{Skips, EvaluatesCondition, EvaluatesValue, conditionReader, valueReader, banks, Judged, Packed, literalEnd, variableEnd, literalAt, variableAt, negated, WordTried, LeafEvaluated};
 use crate::skip;
 use crate::word;
 
 // How many words there are: a result is its place times W, and its word.
 const W: usize = 4294967296;
 
-pub(crate) fn condition(s: &&[u8], at: usize, p: &&[u32], m: &&[u32], k: &&[u32]) -> usize
+// The place behind an operand, 0 where there is none, and its word.
+pub(crate) struct Operand {
+    pub next: usize,
+    pub word: u32,
+}
+
+pub(crate) fn condition(s: &&[u8], at: usize, e: &[&[u32]; 3]) -> usize
     requires { ⌜ (length (now (now s)) ≤ 65535) × (at ≤ length (now (now s)) + 1) ⌝ }
-    ensures { λ r. ⌜ Evaluates (conditionReader (lent (environment (now (now (p .entry))) (now (now (m .entry))) (now (now (k .entry)))))) (conditionBit (environment (now (now (p .entry))) (now (now (m .entry))) (now (now (k .entry))))) (now (now (s .entry))) at (r / 2) (r % 2) ⌝ }
+    ensures { λ r. ⌜ EvaluatesCondition (banks (now (e .entry))) (now (now (s .entry))) at (r / 2) (r % 2) ⌝ }
 {
     if at < s.len() {} else {
         return judged(s.len() + 1, false);
@@ -24,126 +30,178 @@ pub(crate) fn condition(s: &&[u8], at: usize, p: &&[u32], m: &&[u32], k: &&[u32]
     let o = s[at];
     match o {
         0 => judged(at + 1, true),
-        1 => negate(condition(s, at + 1, p, m, k)),
+        1 => negate(condition(s, at + 1, e)),
         2 => {
-            let a = condition(s, at + 1, p, m, k);
+            let a = condition(s, at + 1, e);
             if a % 2 == 1 {
-                condition(s, a / 2, p, m, k)
+                condition(s, a / 2, e)
             } else {
-                judged(skip::condition(s, a / 2, p.len(), m.len(), k.len()), false)
+                judged(pass_condition(s, a / 2, e), false)
             }
         }
         3 => {
-            let a = condition(s, at + 1, p, m, k);
+            let a = condition(s, at + 1, e);
             if a % 2 == 1 {
-                judged(skip::condition(s, a / 2, p.len(), m.len(), k.len()), true)
+                judged(pass_condition(s, a / 2, e), true)
             } else {
-                condition(s, a / 2, p, m, k)
+                condition(s, a / 2, e)
             }
         }
         4 | 5 | 6 => {
-            let l = leaf(s, at + 1, p, m, k);
-            let a = if l == 0 { value(s, at + 1, p, m, k) } else { l };
-            let l = leaf(s, a / W, p, m, k);
-            let b = if l == 0 { value(s, a / W, p, m, k) } else { l };
+            let l = leaf(s, at + 1, e);
+            let a = if l.next == 0 {
+                opened(value(s, at + 1, e))
+            } else {
+                l
+            };
+            let l = leaf(s, a.next, e);
+            let b = if l.next == 0 {
+                opened(value(s, a.next, e))
+            } else {
+                l
+            };
             if o == 4 {
                 return less(a, b);
             }
             if o == 5 {
                 return equal(a, b);
             }
-            let l = leaf(s, b / W, p, m, k);
-            let t = if l == 0 { value(s, b / W, p, m, k) } else { l };
+            let l = leaf(s, b.next, e);
+            let t = if l.next == 0 {
+                opened(value(s, b.next, e))
+            } else {
+                l
+            };
             within(a, b, t)
         }
         _ => judged(s.len() + 1, false),
     }
 }
 
-pub(crate) fn value(s: &&[u8], at: usize, p: &&[u32], m: &&[u32], k: &&[u32]) -> usize
+pub(crate) fn value(s: &&[u8], at: usize, e: &[&[u32]; 3]) -> usize
     requires { ⌜ (length (now (now s)) ≤ 65535) × (at ≤ length (now (now s)) + 1) ⌝ }
-    ensures { λ r. ⌜ Evaluates (valueReader (lent (environment (now (now (p .entry))) (now (now (m .entry))) (now (now (k .entry)))))) (valueWord (environment (now (now (p .entry))) (now (now (m .entry))) (now (now (k .entry))))) (now (now (s .entry))) at (r / 2 ^ 32) (r % 2 ^ 32) ⌝ }
+    ensures { λ r. ⌜ EvaluatesValue (banks (now (e .entry))) (now (now (s .entry))) at (r / 2 ^ 32) (r % 2 ^ 32) ⌝ }
 {
     if at < s.len() {} else {
         return packed(s.len() + 1, 0);
     }
     match s[at] {
         20 => {
-            let l = leaf(s, at + 1, p, m, k);
-            let a = if l == 0 { value(s, at + 1, p, m, k) } else { l };
-            let l = leaf(s, a / W, p, m, k);
-            let b = if l == 0 { value(s, a / W, p, m, k) } else { l };
+            let l = leaf(s, at + 1, e);
+            let a = if l.next == 0 {
+                opened(value(s, at + 1, e))
+            } else {
+                l
+            };
+            let l = leaf(s, a.next, e);
+            let b = if l.next == 0 {
+                opened(value(s, a.next, e))
+            } else {
+                l
+            };
             plus(a, b)
         }
         21 => {
-            let l = leaf(s, at + 1, p, m, k);
-            let a = if l == 0 { value(s, at + 1, p, m, k) } else { l };
-            let l = leaf(s, a / W, p, m, k);
-            let b = if l == 0 { value(s, a / W, p, m, k) } else { l };
+            let l = leaf(s, at + 1, e);
+            let a = if l.next == 0 {
+                opened(value(s, at + 1, e))
+            } else {
+                l
+            };
+            let l = leaf(s, a.next, e);
+            let b = if l.next == 0 {
+                opened(value(s, a.next, e))
+            } else {
+                l
+            };
             minus(a, b)
         }
         22 => {
-            let c = condition(s, at + 1, p, m, k);
+            let c = condition(s, at + 1, e);
             if c % 2 == 1 {
-                let a = value(s, c / 2, p, m, k);
-                let next = skip::value(s, a / W, p.len(), m.len(), k.len());
-                packed(next, word_of(a))
+                let a = value(s, c / 2, e);
+                packed(pass_value(s, a / W, e), word_of(a))
             } else {
-                let next = skip::value(s, c / 2, p.len(), m.len(), k.len());
-                value(s, next, p, m, k)
+                value(s, pass_value(s, c / 2, e), e)
             }
         }
         _ => {
-            let l = leaf(s, at, p, m, k);
-            if l == 0 { packed(s.len() + 1, 0) } else { l }
+            let l = leaf(s, at, e);
+            if l.next == 0 {
+                packed(s.len() + 1, 0)
+            } else {
+                packed(l.next, l.word)
+            }
         }
     }
 }
 
-// A constant or a variable, read without the cost of a recursive call; 0, which no result is, where
-// there is none.
-fn leaf(s: &&[u8], at: usize, p: &&[u32], m: &&[u32], k: &&[u32]) -> usize
+// A constant or a variable, read without the cost of a recursive call. The operators of variables
+// stand in the order of the slices.
+fn leaf(s: &&[u8], at: usize, e: &[&[u32]; 3]) -> Operand
     requires { ⌜ (length (now (now s)) ≤ 65535) × (at < 2 ^ 32) ⌝ }
-    ensures { λ r. ⌜ LeafEvaluated (environment (now (now (p .entry))) (now (now (m .entry))) (now (now (k .entry)))) (now (now (s .entry))) at r ⌝ }
+    ensures { λ r. ⌜ LeafEvaluated (banks (now (e .entry))) (now (now (s .entry))) at (r .next) (r .word) ⌝ }
 {
     if at + 1 < s.len() {} else {
-        return 0;
+        return Operand { next: 0, word: 0 };
     }
-    match s[at] {
-        16 => literal(s, at),
-        17 => variable(s, at, p),
-        18 => variable(s, at, m),
-        19 => variable(s, at, k),
-        _ => 0,
+    let o = word::wide(s[at]);
+    if o == 16 {
+        return literal(s, at);
     }
+    if 17 <= o {} else {
+        return Operand { next: 0, word: 0 };
+    }
+    if o <= 19 {} else {
+        return Operand { next: 0, word: 0 };
+    }
+    variable(s, at, e[o - 17])
 }
 
-// The four bytes that follow `at`, as a word; 0 where there are fewer.
-fn literal(s: &&[u8], at: usize) -> usize
+// The four bytes that follow `at`, as a word, where there are so many.
+fn literal(s: &&[u8], at: usize) -> Operand
     requires { ⌜ (length (now (now s)) ≤ 65535) × (at < length (now (now s))) ⌝ }
-    ensures { λ r. ⌜ WordTried (now (now (s .entry))) (literalEnd (now (now (s .entry))) at) (literalAt (now (now (s .entry))) at) r ⌝ }
+    ensures { λ r. ⌜ WordTried (now (now (s .entry))) (literalEnd (now (now (s .entry))) at) (literalAt (now (now (s .entry))) at) (r .next) (r .word) ⌝ }
 {
     if at + 5 <= s.len() {
-        packed(
-            at + 5,
-            word::big_endian(s[at + 1], s[at + 2], s[at + 3], s[at + 4]),
-        )
+        Operand {
+            next: at + 5,
+            word: word::big_endian(s[at + 1], s[at + 2], s[at + 3], s[at + 4]),
+        }
     } else {
-        0
+        Operand { next: 0, word: 0 }
     }
 }
 
-// The value of the variable whose number follows `at`; 0 where it is not lent.
-fn variable(s: &&[u8], at: usize, values: &&[u32]) -> usize
+// The value of the variable whose number follows `at`, where it is lent.
+fn variable(s: &&[u8], at: usize, values: &[u32]) -> Operand
     requires { ⌜ (length (now (now s)) ≤ 65535) × (at + 1 < length (now (now s))) ⌝ }
-    ensures { λ r. ⌜ WordTried (now (now (s .entry))) (variableEnd (now (now (s .entry))) at (length (now (now (values .entry))))) (variableAt (now (now (s .entry))) at (now (now (values .entry)))) r ⌝ }
+    ensures { λ r. ⌜ WordTried (now (now (s .entry))) (variableEnd (now (now (s .entry))) at (length (now (values .entry)))) (variableAt (now (now (s .entry))) at (now (values .entry))) (r .next) (r .word) ⌝ }
 {
     let i = word::wide(s[at + 1]);
     if i < values.len() {
-        packed(at + 2, values[i])
+        Operand {
+            next: at + 2,
+            word: values[i],
+        }
     } else {
-        0
+        Operand { next: 0, word: 0 }
     }
+}
+
+// The place behind what is not reached.
+fn pass_condition(s: &&[u8], at: usize, e: &[&[u32]; 3]) -> usize
+    requires { ⌜ (length (now (now s)) ≤ 65535) × (at ≤ length (now (now s)) + 1) ⌝ }
+    ensures { λ r. ⌜ Skips (conditionReader (lent (banks (now (e .entry))))) (now (now (s .entry))) at r ⌝ }
+{
+    skip::condition(s, at, e[0].len(), e[1].len(), e[2].len())
+}
+
+fn pass_value(s: &&[u8], at: usize, e: &[&[u32]; 3]) -> usize
+    requires { ⌜ (length (now (now s)) ≤ 65535) × (at ≤ length (now (now s)) + 1) ⌝ }
+    ensures { λ r. ⌜ Skips (valueReader (lent (banks (now (e .entry))))) (now (now (s .entry))) at r ⌝ }
+{
+    skip::value(s, at, e[0].len(), e[1].len(), e[2].len())
 }
 
 fn judged(next: usize, holds: bool) -> usize
@@ -166,6 +224,16 @@ fn word_of(r: usize) -> u32
     (r % W) as u32
 }
 
+// A value's result, as an operand.
+fn opened(r: usize) -> Operand
+    ensures { λ a. ⌜ (a .next ≡ r / 2 ^ 32) × (a .word ≡ r % 2 ^ 32) ⌝ }
+{
+    Operand {
+        next: r / W,
+        word: word_of(r),
+    }
+}
+
 fn negate(r: usize) -> usize
     requires { ⌜ r / 2 ≤ 65536 ⌝ }
     ensures { λ n. ⌜ Judged (r / 2) (negated (r % 2)) n ⌝ }
@@ -173,32 +241,37 @@ fn negate(r: usize) -> usize
     judged(r / 2, r % 2 == 0)
 }
 
-fn less(a: usize, b: usize) -> usize
-    ensures { λ r. ⌜ Judged (b / 2 ^ 32) (lessWord (a % 2 ^ 32) (b % 2 ^ 32)) r ⌝ }
+fn less(a: Operand, b: Operand) -> usize
+    requires { ⌜ b .next < 2 ^ 32 ⌝ }
+    ensures { λ r. ⌜ Judged (b .next) (lessWord (a .word) (b .word)) r ⌝ }
 {
-    judged(b / W, word::less(word_of(a), word_of(b)))
+    judged(b.next, word::less(a.word, b.word))
 }
 
-fn equal(a: usize, b: usize) -> usize
-    ensures { λ r. ⌜ Judged (b / 2 ^ 32) (equalWord (a % 2 ^ 32) (b % 2 ^ 32)) r ⌝ }
+fn equal(a: Operand, b: Operand) -> usize
+    requires { ⌜ b .next < 2 ^ 32 ⌝ }
+    ensures { λ r. ⌜ Judged (b .next) (equalWord (a .word) (b .word)) r ⌝ }
 {
-    judged(b / W, word_of(a) == word_of(b))
+    judged(b.next, a.word == b.word)
 }
 
-fn within(a: usize, b: usize, k: usize) -> usize
-    ensures { λ r. ⌜ Judged (k / 2 ^ 32) (withinWord (a % 2 ^ 32) (b % 2 ^ 32) (k % 2 ^ 32)) r ⌝ }
+fn within(a: Operand, b: Operand, k: Operand) -> usize
+    requires { ⌜ k .next < 2 ^ 32 ⌝ }
+    ensures { λ r. ⌜ Judged (k .next) (withinWord (a .word) (b .word) (k .word)) r ⌝ }
 {
-    judged(k / W, word::within(word_of(a), word_of(b), word_of(k)))
+    judged(k.next, word::within(a.word, b.word, k.word))
 }
 
-fn plus(a: usize, b: usize) -> usize
-    ensures { λ r. ⌜ Packed (b / 2 ^ 32) (plusWord (a % 2 ^ 32) (b % 2 ^ 32)) r ⌝ }
+fn plus(a: Operand, b: Operand) -> usize
+    requires { ⌜ b .next < 2 ^ 32 ⌝ }
+    ensures { λ r. ⌜ Packed (b .next) (plusWord (a .word) (b .word)) r ⌝ }
 {
-    packed(b / W, word::plus(word_of(a), word_of(b)))
+    packed(b.next, word::plus(a.word, b.word))
 }
 
-fn minus(a: usize, b: usize) -> usize
-    ensures { λ r. ⌜ Packed (b / 2 ^ 32) (minusWord (a % 2 ^ 32) (b % 2 ^ 32)) r ⌝ }
+fn minus(a: Operand, b: Operand) -> usize
+    requires { ⌜ b .next < 2 ^ 32 ⌝ }
+    ensures { λ r. ⌜ Packed (b .next) (minusWord (a .word) (b .word)) r ⌝ }
 {
-    packed(b / W, word::minus(word_of(a), word_of(b)))
+    packed(b.next, word::minus(a.word, b.word))
 }

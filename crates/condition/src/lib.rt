@@ -3,10 +3,11 @@
 
 ghost use mathlib.Core.Path.{_≡_};
 ghost use mathlib.Core.Bool.{true};
+ghost use mathlib.Core.List.{[]};
 ghost use lib.ListN.{take};
 ghost use Rattle.condition.specs.Tree.{conditionNames, actionNames, isMonitor, isAtEntry};
 ghost use Rattle.condition.specs.Meaning.{environment};
-ghost use Rattle.condition.specs.Answer.{conditionPaper, conditionOutcome, valuePaper, valueOutcome, actionPaper, actionOutcome, conditionWhich, actionWhich};
+ghost use Rattle.condition.specs.Answer.{conditionPaper, conditionOutcome, valuePaper, valueOutcome, holdsFrom, actionPaper, actionOutcome, textFrom, conditionWhich, actionWhich};
 
 mod action;
 mod evaluate;
@@ -59,18 +60,19 @@ pub fn front(values: &[u32], count: usize) -> &[u32]
 
 // Evaluates a condition on its own: 4 for its length, 5 for bytes that are not exactly one, or its
 // truth.
-pub fn evaluate_condition(
+pub fn evaluate_condition<'a>(
     s: &[u8],
-    program: &[u32],
-    monitor: &[u32],
-    kept: &[u32],
+    program: &'a [u32],
+    monitor: &'a [u32],
+    kept: &'a [u32],
 ) -> ConditionAnswer
     ensures { λ r. ⌜ conditionPaper r ≡ conditionOutcome (now (s .entry)) (environment (now (program .entry)) (now (monitor .entry)) (now (kept .entry))) ⌝ }
 {
     if (1 <= s.len()) & (s.len() <= LONGEST) {} else {
         return ConditionAnswer::Refused(4);
     }
-    let r = evaluate::condition(&s, 0, &program, &monitor, &kept);
+    let e = [program, monitor, kept];
+    let r = evaluate::condition(&s, 0, &e);
     if r / 2 == s.len() {
         ConditionAnswer::Is(r % 2 == 1)
     } else {
@@ -78,14 +80,39 @@ pub fn evaluate_condition(
     }
 }
 
+// Whether the bytes from a place on begin with a condition, for what is lent, that holds. What stands
+// behind it does not matter.
+pub fn holds_at<'a>(
+    s: &[u8],
+    at: usize,
+    program: &'a [u32],
+    monitor: &'a [u32],
+    kept: &'a [u32],
+) -> bool
+    ensures { λ r. ⌜ r ≡ holdsFrom (now (s .entry)) at (environment (now (program .entry)) (now (monitor .entry)) (now (kept .entry))) ⌝ }
+{
+    if (at < s.len()) & (s.len() <= 65535) {} else {
+        return false;
+    }
+    let e = [program, monitor, kept];
+    let r = evaluate::condition(&s, at, &e);
+    (r % 2 == 1) & (r / 2 <= s.len())
+}
+
 // Evaluates a value on its own, with the same refusals: its word.
-pub fn evaluate_value(s: &[u8], program: &[u32], monitor: &[u32], kept: &[u32]) -> ValueAnswer
+pub fn evaluate_value<'a>(
+    s: &[u8],
+    program: &'a [u32],
+    monitor: &'a [u32],
+    kept: &'a [u32],
+) -> ValueAnswer
     ensures { λ r. ⌜ valuePaper r ≡ valueOutcome (now (s .entry)) (environment (now (program .entry)) (now (monitor .entry)) (now (kept .entry))) ⌝ }
 {
     if (1 <= s.len()) & (s.len() <= LONGEST) {} else {
         return ValueAnswer::Refused(4);
     }
-    let r = evaluate::value(&s, 0, &program, &monitor, &kept);
+    let e = [program, monitor, kept];
+    let r = evaluate::value(&s, 0, &e);
     if r / 4294967296 == s.len() {
         ValueAnswer::Is((r % 4294967296) as u32)
     } else {
@@ -94,12 +121,12 @@ pub fn evaluate_value(s: &[u8], program: &[u32], monitor: &[u32], kept: &[u32]) 
 }
 
 // Carries an action out on the first `count` of four monitor variables. A refusal changes none.
-pub fn perform(
+pub fn perform<'a>(
     s: &[u8],
-    program: &[u32],
+    program: &'a [u32],
     variables: [u32; 4],
     count: usize,
-    kept: &[u32],
+    kept: &'a [u32],
 ) -> Performed
     ensures { λ r. ⌜ r ≡ actionPaper count variables (actionOutcome (now (s .entry)) (environment (now (program .entry)) (take count variables) (now (kept .entry)))) ⌝ }
 {
@@ -109,7 +136,45 @@ pub fn perform(
             variables,
         };
     }
-    action::run(s, program, variables, count, kept)
+    let mut present = variables;
+    if action::run(s, program, &mut present, count, kept) {
+        Performed {
+            answer: ActionAnswer::Done,
+            variables: present,
+        }
+    } else {
+        Performed {
+            answer: ActionAnswer::Refused(5),
+            variables: present,
+        }
+    }
+}
+
+// Carries out, in place, the action whose length byte stands at a place, on the first `count` of four
+// monitor variables. What is refused changes none.
+pub fn perform_at(s: &[u8], at: usize, program: &[u32], variables: &mut [u32; 4], count: usize)
+    ensures { λ _. ⌜ now (variables .exit) ≡ actionPaper count (now (variables .entry)) (actionOutcome (textFrom (now (s .entry)) at) (environment (now (program .entry)) (take count (now (variables .entry))) [])) .variables ⌝ }
+{
+    let text = text_at(s, at);
+    if text.len() <= LONGEST_ACTION {
+        action::run(text, program, variables, count, &program[..0]);
+    }
+}
+
+// The text whose length byte stands at a place, none past the end.
+fn text_at(s: &[u8], at: usize) -> &[u8]
+    ensures { λ r. ⌜ now r ≡ textFrom (now (s .entry)) at ⌝ }
+{
+    if at < s.len() {} else {
+        return &s[..0];
+    }
+    let rest = &s[at + 1..];
+    let size = word::wide(s[at]);
+    if size < rest.len() {
+        &rest[..size]
+    } else {
+        rest
+    }
 }
 
 // Whether the bytes are exactly one condition for so many variables.

@@ -120,12 +120,12 @@ fn print_value(a: ValueAnswer) {
 }
 
 // The first variables after an action.
-fn print_performed(
+fn print_performed<'a>(
     text: &[u8],
-    programs: &[u32],
+    programs: &'a [u32],
     variables: [u32; 4],
     count: usize,
-    keeps: &[u32],
+    keeps: &'a [u32],
 ) {
     let done = condition::perform(text, programs, variables, count, keeps);
     let answer = done.answer;

@@ -281,13 +281,13 @@ fn judged(
 }
 
 // The lowest of some triples whose postcondition fails, or 256.
-pub(crate) fn lowest_failing(
+pub(crate) fn lowest_failing<'a>(
     s: &[u8],
     at: u16,
     arms: Arms,
     conditions: &[u32; 161],
-    values: &[u32],
-    kept: &[u32],
+    values: &'a [u32],
+    kept: &'a [u32],
 ) -> u16
     ensures { λ r. ⌜ r ≡ leastOf 256 (keep (failsAt (now (s .entry)) (now (conditions .entry)) at (environment (now (values .entry)) [] (now (kept .entry)))) (take (arms .count) (arms .triples))) ⌝ }
 {
@@ -310,7 +310,14 @@ pub(crate) fn lowest_failing(
 }
 
 // Whether the postcondition of a triple does not hold.
-fn fails(s: &[u8], at: u16, n: u8, conditions: &[u32; 161], values: &[u32], kept: &[u32]) -> bool
+fn fails<'a>(
+    s: &[u8],
+    at: u16,
+    n: u8,
+    conditions: &[u32; 161],
+    values: &'a [u32],
+    kept: &'a [u32],
+) -> bool
     ensures { λ r. ⌜ r ≡ failsAt (now (s .entry)) (now (conditions .entry)) at (environment (now (values .entry)) [] (now (kept .entry))) n ⌝ }
 {
     let t = sheet::triple_at(s, long(at) + 4 * word(n));

@@ -204,13 +204,13 @@ fn of_unit(row: &[u32; 256], opened: usize, place: usize, unit: u32) -> bool
 }
 
 // The lowest triple armed for the call at a place that fails at its exit, or 256.
-fn judged(
+fn judged<'a>(
     s: &[u8],
     t: Tables,
     conditions: &[u32; 161],
-    row: &[u32; 256],
+    row: &'a [u32; 256],
     place: usize,
-    values: &[u32],
+    values: &'a [u32],
 ) -> u16
     requires { ⌜ (t .header .programs ≤ 8) × (place < 16) ⌝ }
     ensures { λ r. ⌜ r ≡ leastOf 256 (keep (failsAt (now (s .entry)) (now (conditions .entry)) (t .triples) (environment (now (values .entry)) [] (take (t .header .programs) (drop (16 * place + 8) (now (row .entry)))))) (take (armsIn (drop (16 * place) (now (row .entry))) .count) (armsIn (drop (16 * place) (now (row .entry))) .triples))) ⌝ }

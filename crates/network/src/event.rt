@@ -326,15 +326,15 @@ fn judged(
 }
 
 // The lowest template among the first `living` checkers that are bound to a call and fail, or 256.
-fn lowest_failing(
+fn lowest_failing<'a>(
     s: &[u8],
     at: u16,
     number: u16,
     checkers: [Checker; 64],
     living: usize,
     conditions: &[u32; 161],
-    values: &[u32],
-    kept: &[u32],
+    values: &'a [u32],
+    kept: &'a [u32],
 ) -> u16
     ensures { λ r. ⌜ r ≡ leastOf 256 (map (λ h. h .template) (keep (failsAt (now (s .entry)) (now (conditions .entry)) at (environment (now (values .entry)) [] (now (kept .entry))) number) (take living checkers))) ⌝ }
 {
@@ -355,14 +355,14 @@ fn lowest_failing(
 }
 
 // Whether a checker is bound to a call and its postcondition does not hold. Only a bound one is judged.
-fn fails(
+fn fails<'a>(
     s: &[u8],
     at: u16,
     number: u16,
     c: Checker,
     conditions: &[u32; 161],
-    values: &[u32],
-    kept: &[u32],
+    values: &'a [u32],
+    kept: &'a [u32],
 ) -> bool
     ensures { λ r. ⌜ r ≡ failsAt (now (s .entry)) (now (conditions .entry)) at (environment (now (values .entry)) [] (now (kept .entry))) number c ⌝ }
 {

@@ -79,13 +79,13 @@ pub struct Moved {
 }
 
 // Whether a condition holds over the lent values, by its number in the index of a sheet or network.
-pub fn condition_holds(
+pub fn condition_holds<'a>(
     s: &[u8],
     index: &[u32; 161],
     i: u8,
-    program: &[u32],
-    monitor: &[u32],
-    kept: &[u32],
+    program: &'a [u32],
+    monitor: &'a [u32],
+    kept: &'a [u32],
 ) -> bool
     ensures { λ r. ⌜ r ≡ meetsAt (now (s .entry)) (now (index .entry)) i (environment (now (program .entry)) (now (monitor .entry)) (now (kept .entry))) ⌝ }
 {
@@ -240,15 +240,15 @@ fn pick(test: bool, n: u8, rest: u8) -> u8
 
 // The first of n transitions from a place on that leaves the state, has the event's kind and unit,
 // and whose condition holds. Those of a network carry pairs.
-pub fn first_enabled(
+pub fn first_enabled<'a>(
     s: &[u8],
     at: u16,
     n: u8,
     paired: bool,
     key: Key,
     index: &[u32; 161],
-    values: &[u32],
-    variables: &[u32],
+    values: &'a [u32],
+    variables: &'a [u32],
 ) -> Found
     ensures { λ r. ⌜ r ≡ firstPlace (enabledAt (now (s .entry)) (now (index .entry)) key (environment (now (values .entry)) (now (variables .entry)) [])) (baseForm paired) n (now (s .entry)) at ⌝ }
 {
@@ -289,13 +289,13 @@ pub fn take_transition(
 }
 
 // Whether the transition at a place can be taken. Its condition is evaluated only where the rest fits.
-fn enabled(
+fn enabled<'a>(
     s: &[u8],
     at: u32,
     key: Key,
     index: &[u32; 161],
-    values: &[u32],
-    variables: &[u32],
+    values: &'a [u32],
+    variables: &'a [u32],
 ) -> bool
     ensures { λ r. ⌜ r ≡ enabledAt (now (s .entry)) (now (index .entry)) key (environment (now (values .entry)) (now (variables .entry)) []) (transitionOf (drop at (now (s .entry)))) ⌝ }
 {

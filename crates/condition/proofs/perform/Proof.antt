@@ -10,7 +10,10 @@ returns : tie.Need-returns
 returns c = ap (actionPaper _ _) (action-refused _ _ (c .if1 .left))
 
 returns-2 : tie.Need-returns-2
-returns-2 c = c .run .ensures ∙ ap (actionPaper _ _) (action-performed _ _ (c .before .if1 .taken))
+returns-2 c = rw (c .if2 .taken) at (c .before .run .ensures) ∙ ap (actionPaper _ _) (action-performed _ _ (c .before .before .before .if1 .taken))
+
+returns-3 : tie.Need-returns-3
+returns-3 c = rw (c .if2 .left) at (c .before .run .ensures) ∙ ap (actionPaper _ _) (action-performed _ _ (c .before .before .before .if1 .taken))
 
 pub perform-spec : {M : Type 1} → statement M
-perform-spec = tie.close (tie.spec returns (λ c κs. search needs) returns-2)
+perform-spec = tie.close (tie.spec returns (λ c κs. search needs) returns-2 returns-3)

@@ -7,10 +7,10 @@ use Rattle.condition.proofs.action.run.Statement.{statement}
 use Rattle.condition.proofs.action.run.Tie as tie
 
 abbrev Inv-loop : tie.InvT-loop
-Inv-loop s program variables count kept present₀ at₀ present at = Carried program count kept s at variables present
+Inv-loop s program variables₀ count kept before at₀ variables at = Carried program count kept s at variables₀ variables
 
 abbrev μ-loop : tie.MeasureT-loop
-μ-loop s program variables count kept present₀ at₀ present at = length s + 1 - at
+μ-loop s program variables₀ count kept before at₀ variables at = length s + 1 - at
 
 loop-holds : tie.Need-loop-holds Inv-loop μ-loop
 loop-holds c = carried-start _ _ _ _ _
@@ -19,10 +19,10 @@ assign-requires : tie.Need-assign-requires Inv-loop μ-loop
 assign-requires c κs = omega arith
 
 loop-less : tie.Need-loop-less Inv-loop μ-loop
-loop-less c = omega (arith, c .before .assign .ensures .skips .low)
+loop-less c = omega (arith, c .assign .ensures .skips .low)
 
 loop-again : tie.Need-loop-again Inv-loop μ-loop
-loop-again c = carried-next _ _ _ _ _ _ _ (c .before .before .before .loop .inv) _ _ (c .before .before .loop-test .taken) (c .before .assign .ensures)
+loop-again c = carried-next _ _ _ _ _ _ _ (c .before .before .before .loop .inv) _ _ (c .before .before .loop-test .taken) (c .assign .ensures)
 
 returns : tie.Need-returns Inv-loop μ-loop
 returns c = carried-end _ _ _ _ _ _ _ (c .before .before .loop .inv) (c .if1 .taken)

@@ -20,33 +20,34 @@ use Rattle.condition.proofs.evaluate.leaf.Reads as leaf-reads
 use Rattle.condition.proofs.evaluate.less.Reads as less-reads
 use Rattle.condition.proofs.evaluate.minus.Reads as minus-reads
 use Rattle.condition.proofs.evaluate.negate.Reads as negate-reads
+use Rattle.condition.proofs.evaluate.opened.Reads as opened-reads
 use Rattle.condition.proofs.evaluate.packed.Reads as packed-reads
+use Rattle.condition.proofs.evaluate.pass_condition.Reads as pass-condition-reads
+use Rattle.condition.proofs.evaluate.pass_value.Reads as pass-value-reads
 use Rattle.condition.proofs.evaluate.plus.Reads as plus-reads
 use Rattle.condition.proofs.evaluate.within.Reads as within-reads
 use Rattle.condition.proofs.evaluate.word_of.Reads as word-of-reads
-use Rattle.condition.proofs.skip.condition.Reads as condition-reads
-use Rattle.condition.proofs.skip.value.Reads as value-reads
 use Rattle.condition.proofs.evaluate.+condition+value.{statement}
 use Rattle.condition.proofs.evaluate.+condition+value.Tie.{close}
 
-abbrev μ-condition : Measures 8 condition-kinds.ps ℕ
+abbrev μ-condition : Measures 4 condition-kinds.ps ℕ
 μ-condition κs a = length (a .0 .now .now) - a .1 .0
 
-abbrev μ-value : Measures 8 value-kinds.ps ℕ
+abbrev μ-value : Measures 4 value-kinds.ps ℕ
 μ-value κs a = length (a .0 .now .now) - a .1 .0
 
-abbrev condition-at : ℕ → In 8 condition-kinds.ps
-condition-at t = and 8 condition-kinds.ps (is 8 condition-kinds.ps μ-condition t) condition.Pre
+abbrev condition-at : ℕ → In 4 condition-kinds.ps
+condition-at t = and 4 condition-kinds.ps (is 4 condition-kinds.ps μ-condition t) condition.Pre
 
-abbrev condition-below : ℕ → In 8 condition-kinds.ps
+abbrev condition-below : ℕ → In 4 condition-kinds.ps
 condition-below t =
-    and 8 condition-kinds.ps (falls 8 condition-kinds.ps _<_ μ-condition t) condition.Pre
+    and 4 condition-kinds.ps (falls 4 condition-kinds.ps _<_ μ-condition t) condition.Pre
 
-abbrev value-at : ℕ → In 8 value-kinds.ps
-value-at t = and 8 value-kinds.ps (is 8 value-kinds.ps μ-value t) value.Pre
+abbrev value-at : ℕ → In 4 value-kinds.ps
+value-at t = and 4 value-kinds.ps (is 4 value-kinds.ps μ-value t) value.Pre
 
-abbrev value-below : ℕ → In 8 value-kinds.ps
-value-below t = and 8 value-kinds.ps (falls 8 value-kinds.ps _<_ μ-value t) value.Pre
+abbrev value-below : ℕ → In 4 value-kinds.ps
+value-below t = and 4 value-kinds.ps (falls 4 value-kinds.ps _<_ μ-value t) value.Pre
 
 pub +condition+value-spec : {M : Type 1} → statement M
 +condition+value-spec =
@@ -60,12 +61,14 @@ pub +condition+value-spec : {M : Type 1} → statement M
       condition.Post,
       negate-reads.Asked,
       negate-reads.Learnt,
-      condition-reads.Asked,
-      condition-reads.Learnt,
+      pass-condition-reads.Asked,
+      pass-condition-reads.Learnt,
       leaf-reads.Asked,
       leaf-reads.Learnt,
       value-below t,
       value.Post,
+      opened-reads.Asked,
+      opened-reads.Learnt,
       less-reads.Asked,
       less-reads.Learnt,
       equal-reads.Asked,
@@ -88,34 +91,37 @@ pub +condition+value-spec : {M : Type 1} → statement M
     (λ c κs. omega arith)
     (λ c κs. omega arith)
     (λ c κs. omega arith)
+    (λ c κs. omega (arith, c .pass-condition .ensures .high))
+    (λ c. search needs)
+    (λ c κs. omega arith)
+    (λ c κs. omega arith)
+    (λ c κs. omega (arith, c .pass-condition2 .ensures .high))
+    (λ c κs. omega arith)
+    (λ c. search needs)
     (λ c κs. omega arith)
     (λ c. search needs)
     (λ c κs. omega arith)
     (λ c κs. omega arith)
+    (λ c κs. let x = operand _ _ _ _ (c .if5 .a) (λ x. x .next) (λ x. x .word) (c .before .before .leaf .ensures) (c .if5 .came) (λ w. rw (w .3) (rw (w .2 .ensures .0, w .2 .ensures .1) (w .1 .ensures))) (λ w. (w .0 .left, w .1)) in omega (arith, x .skips .low, x .skips .high))
+    (λ c κs. let x = operand _ _ _ _ (c .before .before .before .if5 .a) (λ x. x .next) (λ x. x .word) (c .before .before .before .before .before .leaf .ensures) (c .before .before .before .if5 .came) (λ w. rw (w .3) (rw (w .2 .ensures .0, w .2 .ensures .1) (w .1 .ensures))) (λ w. (w .0 .left, w .1)) in omega (arith, x .skips .low, x .skips .high))
     (λ c κs. omega arith)
+    (λ c κs. let y = operand _ _ _ _ (c .before .if6 .b) (λ x. x .next) (λ x. x .word) (c .before .before .before .leaf2 .ensures) (c .before .if6 .came) (λ w. rw (w .3) (rw (w .2 .ensures .0, w .2 .ensures .1) (w .1 .ensures))) (λ w. (w .0 .left, w .1)) in omega (arith, y .skips .high))
+    (λ c. as-judged _ _ _ _ _ _ (c .less .ensures) (evaluates-less _ _ _ (c .before .before .before .before .before .before .before .before .before .before .before .if1 .taken) _ _ _ _ (operand _ _ _ _ (c .before .before .before .before .before .if5 .a) (λ x. x .next) (λ x. x .word) (c .before .before .before .before .before .before .before .leaf .ensures) (c .before .before .before .before .before .if5 .came) (λ w. rw (w .3) (rw (w .2 .ensures .0, w .2 .ensures .1) (w .1 .ensures))) (λ w. (w .0 .left, w .1))) (operand _ _ _ _ (c .before .before .if6 .b) (λ x. x .next) (λ x. x .word) (c .before .before .before .before .leaf2 .ensures) (c .before .before .if6 .came) (λ w. rw (w .3) (rw (w .2 .ensures .0, w .2 .ensures .1) (w .1 .ensures))) (λ w. (w .0 .left, w .1))) (c .before .if7 .taken)))
+    (λ c κs. let y = operand _ _ _ _ (c .before .before .if6 .b) (λ x. x .next) (λ x. x .word) (c .before .before .before .before .leaf2 .ensures) (c .before .before .if6 .came) (λ w. rw (w .3) (rw (w .2 .ensures .0, w .2 .ensures .1) (w .1 .ensures))) (λ w. (w .0 .left, w .1)) in omega (arith, y .skips .high))
+    (λ c. as-judged _ _ _ _ _ _ (c .equal .ensures) (evaluates-equal _ _ _ (c .before .before .before .before .before .before .before .before .before .before .before .before .if1 .taken) _ _ _ _ (operand _ _ _ _ (c .before .before .before .before .before .before .if5 .a) (λ x. x .next) (λ x. x .word) (c .before .before .before .before .before .before .before .before .leaf .ensures) (c .before .before .before .before .before .before .if5 .came) (λ w. rw (w .3) (rw (w .2 .ensures .0, w .2 .ensures .1) (w .1 .ensures))) (λ w. (w .0 .left, w .1))) (operand _ _ _ _ (c .before .before .before .if6 .b) (λ x. x .next) (λ x. x .word) (c .before .before .before .before .before .leaf2 .ensures) (c .before .before .before .if6 .came) (λ w. rw (w .3) (rw (w .2 .ensures .0, w .2 .ensures .1) (w .1 .ensures))) (λ w. (w .0 .left, w .1))) (c .before .if8 .taken)))
+    (λ c κs. let x = operand _ _ _ _ (c .before .before .before .before .before .if5 .a) (λ x. x .next) (λ x. x .word) (c .before .before .before .before .before .before .before .leaf .ensures) (c .before .before .before .before .before .if5 .came) (λ w. rw (w .3) (rw (w .2 .ensures .0, w .2 .ensures .1) (w .1 .ensures))) (λ w. (w .0 .left, w .1)) in let y = operand _ _ _ _ (c .before .before .if6 .b) (λ x. x .next) (λ x. x .word) (c .before .before .before .before .leaf2 .ensures) (c .before .before .if6 .came) (λ w. rw (w .3) (rw (w .2 .ensures .0, w .2 .ensures .1) (w .1 .ensures))) (λ w. (w .0 .left, w .1)) in omega (arith, x .skips .low, y .skips .low, y .skips .high))
+    (λ c κs. let x = operand _ _ _ _ (c .before .before .before .before .before .before .before .before .if5 .a) (λ x. x .next) (λ x. x .word) (c .before .before .before .before .before .before .before .before .before .before .leaf .ensures) (c .before .before .before .before .before .before .before .before .if5 .came) (λ w. rw (w .3) (rw (w .2 .ensures .0, w .2 .ensures .1) (w .1 .ensures))) (λ w. (w .0 .left, w .1)) in let y = operand _ _ _ _ (c .before .before .before .before .before .if6 .b) (λ x. x .next) (λ x. x .word) (c .before .before .before .before .before .before .before .leaf2 .ensures) (c .before .before .before .before .before .if6 .came) (λ w. rw (w .3) (rw (w .2 .ensures .0, w .2 .ensures .1) (w .1 .ensures))) (λ w. (w .0 .left, w .1)) in omega (arith, x .skips .low, y .skips .low, y .skips .high))
     (λ c κs. omega arith)
-    (λ c. search needs)
-    (λ c κs. omega arith)
-    (λ c. search needs)
-    (λ c κs. omega arith)
-    (λ c κs. omega arith)
-    (λ c κs. let x = operand _ _ _ _ (c .before .before .before .if5 .a) (c .before .before .before .before .leaf .ensures) (c .before .before .before .if5 .came) (λ w. rw (w .2) (w .1 .ensures)) (λ w. (w .0 .left, w .1)) in omega (arith, x .skips .low, x .skips .high))
-    (λ c κs. omega arith)
-    (λ c. as-judged _ _ _ _ _ _ (c .less .ensures) (evaluates-less _ _ _ (c .before .before .before .before .before .before .before .before .before .before .if1 .taken) _ _ _ _ (operand _ _ _ _ (c .before .before .before .before .before .if5 .a) (c .before .before .before .before .before .before .leaf .ensures) (c .before .before .before .before .before .if5 .came) (λ w. rw (w .2) (w .1 .ensures)) (λ w. (w .0 .left, w .1))) (operand _ _ _ _ (c .before .before .if6 .b) (c .before .before .before .leaf2 .ensures) (c .before .before .if6 .came) (λ w. rw (w .2) (w .1 .ensures)) (λ w. (w .0 .left, w .1))) (c .before .if7 .taken)))
-    (λ c κs. omega arith)
-    (λ c. as-judged _ _ _ _ _ _ (c .equal .ensures) (evaluates-equal _ _ _ (c .before .before .before .before .before .before .before .before .before .before .before .if1 .taken) _ _ _ _ (operand _ _ _ _ (c .before .before .before .before .before .before .if5 .a) (c .before .before .before .before .before .before .before .leaf .ensures) (c .before .before .before .before .before .before .if5 .came) (λ w. rw (w .2) (w .1 .ensures)) (λ w. (w .0 .left, w .1))) (operand _ _ _ _ (c .before .before .before .if6 .b) (c .before .before .before .before .leaf2 .ensures) (c .before .before .before .if6 .came) (λ w. rw (w .2) (w .1 .ensures)) (λ w. (w .0 .left, w .1))) (c .before .if8 .taken)))
-    (λ c κs. omega arith)
-    (λ c κs. let x = operand _ _ _ _ (c .before .before .before .before .before .before .before .before .if5 .a) (c .before .before .before .before .before .before .before .before .before .leaf .ensures) (c .before .before .before .before .before .before .before .before .if5 .came) (λ w. rw (w .2) (w .1 .ensures)) (λ w. (w .0 .left, w .1)) in let y = operand _ _ _ _ (c .before .before .before .before .before .if6 .b) (c .before .before .before .before .before .before .leaf2 .ensures) (c .before .before .before .before .before .if6 .came) (λ w. rw (w .2) (w .1 .ensures)) (λ w. (w .0 .left, w .1)) in omega (arith, x .skips .low, y .skips .low, y .skips .high))
-    (λ c κs. omega arith)
+    (λ c κs. let z = operand _ _ _ _ (c .if9 .t) (λ x. x .next) (λ x. x .word) (c .before .before .leaf3 .ensures) (c .if9 .came) (λ w. rw (w .3) (rw (w .2 .ensures .0, w .2 .ensures .1) (w .1 .ensures))) (λ w. (w .0 .left, w .1)) in omega (arith, z .skips .high))
     (λ c. search needs)
     (λ c κs. omega arith)
     (λ c. as-judged _ _ _ _ _ _ (c .judged2 .ensures) (evaluates-true _ _ _ (c .before .before .before .if1 .taken) (c .before .match .keys1)))
     (λ c. as-judged _ _ _ _ _ _ (c .negate .ensures) (evaluates-not _ _ _ (c .before .before .before .before .if1 .taken) _ _ (c .before .before .match .keys2) (c .before .condition .ensures)))
     (λ c. and-right _ _ _ (c .before .before .before .before .before .if1 .taken) _ _ _ (c .before .before .condition2 .ensures) _ (c .before .before .before .match .keys3) (c .before .if2 .taken) (c .condition3 .ensures))
-    (λ c. as-judged _ _ _ _ _ _ (c .judged3 .ensures) (and-left _ _ _ (c .before .before .before .before .before .before .if1 .taken) _ _ _ (c .before .before .before .condition2 .ensures) (c .before .before .before .before .match .keys3) (c .before .before .if2 .left) (c .before .condition4 .ensures)))
-    (λ c. as-judged _ _ _ _ _ _ (c .judged4 .ensures) (or-left _ _ _ (c .before .before .before .before .before .before .if1 .taken) _ _ _ (c .before .before .before .condition5 .ensures) (c .before .before .before .before .match .keys4) (c .before .before .if3 .taken) (c .before .condition6 .ensures)))
-    (λ c. or-right _ _ _ (c .before .before .before .before .before .if1 .taken) _ _ _ (c .before .before .condition5 .ensures) _ (c .before .before .before .match .keys4) (c .before .if3 .left) (c .condition7 .ensures))
-    (λ c. as-judged _ _ _ _ _ _ (c .within .ensures) (evaluates-within _ _ _ (c .before .before .before .before .before .before .before .before .before .before .before .before .before .before .if1 .taken) _ _ _ _ (operand _ _ _ _ (c .before .before .before .before .before .before .before .before .before .if5 .a) (c .before .before .before .before .before .before .before .before .before .before .leaf .ensures) (c .before .before .before .before .before .before .before .before .before .if5 .came) (λ w. rw (w .2) (w .1 .ensures)) (λ w. (w .0 .left, w .1))) (operand _ _ _ _ (c .before .before .before .before .before .before .if6 .b) (c .before .before .before .before .before .before .before .leaf2 .ensures) (c .before .before .before .before .before .before .if6 .came) (λ w. rw (w .2) (w .1 .ensures)) (λ w. (w .0 .left, w .1))) _ _ (omega arith) (operand _ _ _ _ (c .before .if9 .t) (c .before .before .leaf3 .ensures) (c .before .if9 .came) (λ w. rw (w .2) (w .1 .ensures)) (λ w. (w .0 .left, w .1)))))
+    (λ c. as-judged _ _ _ _ _ _ (c .judged3 .ensures) (and-left _ _ _ (c .before .before .before .before .before .before .if1 .taken) _ _ _ (c .before .before .before .condition2 .ensures) (c .before .before .before .before .match .keys3) (c .before .before .if2 .left) (c .before .pass-condition .ensures)))
+    (λ c. as-judged _ _ _ _ _ _ (c .judged4 .ensures) (or-left _ _ _ (c .before .before .before .before .before .before .if1 .taken) _ _ _ (c .before .before .before .condition4 .ensures) (c .before .before .before .before .match .keys4) (c .before .before .if3 .taken) (c .before .pass-condition2 .ensures)))
+    (λ c. or-right _ _ _ (c .before .before .before .before .before .if1 .taken) _ _ _ (c .before .before .condition4 .ensures) _ (c .before .before .before .match .keys4) (c .before .if3 .left) (c .condition5 .ensures))
+    (λ c. as-judged _ _ _ _ _ _ (c .within .ensures) (evaluates-within _ _ _ (c .before .before .before .before .before .before .before .before .before .before .before .before .before .before .before .if1 .taken) _ _ _ _ (operand _ _ _ _ (c .before .before .before .before .before .before .before .before .before .if5 .a) (λ x. x .next) (λ x. x .word) (c .before .before .before .before .before .before .before .before .before .before .before .leaf .ensures) (c .before .before .before .before .before .before .before .before .before .if5 .came) (λ w. rw (w .3) (rw (w .2 .ensures .0, w .2 .ensures .1) (w .1 .ensures))) (λ w. (w .0 .left, w .1))) (operand _ _ _ _ (c .before .before .before .before .before .before .if6 .b) (λ x. x .next) (λ x. x .word) (c .before .before .before .before .before .before .before .before .leaf2 .ensures) (c .before .before .before .before .before .before .if6 .came) (λ w. rw (w .3) (rw (w .2 .ensures .0, w .2 .ensures .1) (w .1 .ensures))) (λ w. (w .0 .left, w .1))) _ _ (omega (arith, c .before .before .before .before .before .before .before .before .before .before .before .before .before .match .rest .0 .0 .0 .1, c .before .before .before .before .before .before .before .before .before .before .before .before .before .match .rest .0 .0 .1, c .before .before .before .before .before .before .before .before .before .before .before .before .before .match .rest .0 .1, c .before .before .before .before .before .before .before .before .before .before .before .before .before .match .rest .1, c .before .before .before .before .before .if7 .left, c .before .before .before .before .if8 .left, c .before .before .before .before .before .before .before .before .before .before .before .before .if4 .taken)) (operand _ _ _ _ (c .before .if9 .t) (λ x. x .next) (λ x. x .word) (c .before .before .before .leaf3 .ensures) (c .before .if9 .came) (λ w. rw (w .3) (rw (w .2 .ensures .0, w .2 .ensures .1) (w .1 .ensures))) (λ w. (w .0 .left, w .1)))))
     (λ c. as-judged _ _ _ _ _ _ (c .judged5 .ensures) (no-condition-there _ _ _ (c .before .before .before .before .if1 .taken) (no-condition _ (c .before .before .match .rest .0 .0 .0 .1) (c .before .before .match .rest .0 .0 .1) (c .before .before .match .rest .0 .1) (c .before .before .match .rest .1) (λ e. omega arith) (λ e. omega arith) (λ e. omega arith)))))
     λ t. value-lts.spec (
       packed-reads.Asked,
@@ -124,14 +130,16 @@ pub +condition+value-spec : {M : Type 1} → statement M
       leaf-reads.Learnt,
       value-below t,
       value.Post,
+      opened-reads.Asked,
+      opened-reads.Learnt,
       plus-reads.Asked,
       plus-reads.Learnt,
       minus-reads.Asked,
       minus-reads.Learnt,
       condition-below t,
       condition.Post,
-      value-reads.Asked,
-      value-reads.Learnt,
+      pass-value-reads.Asked,
+      pass-value-reads.Learnt,
       word-of-reads.Asked,
       word-of-reads.Learnt,
     )
@@ -146,29 +154,34 @@ pub +condition+value-spec : {M : Type 1} → statement M
     (λ c. search needs)
     (λ c κs. omega arith)
     (λ c κs. omega arith)
-    (λ c κs. let x = operand _ _ _ _ (c .before .before .before .if2 .a) (c .before .before .before .before .leaf .ensures) (c .before .before .before .if2 .came) (λ w. rw (w .2) (w .1 .ensures)) (λ w. (w .0 .left, w .1)) in omega (arith, x .skips .low, x .skips .high))
+    (λ c κs. let x = operand _ _ _ _ (c .if2 .a) (λ x. x .next) (λ x. x .word) (c .before .before .leaf .ensures) (c .if2 .came) (λ w. rw (w .3) (rw (w .2 .ensures .0, w .2 .ensures .1) (w .1 .ensures))) (λ w. (w .0 .left, w .1)) in omega (arith, x .skips .low, x .skips .high))
+    (λ c κs. let x = operand _ _ _ _ (c .before .before .before .if2 .a) (λ x. x .next) (λ x. x .word) (c .before .before .before .before .before .leaf .ensures) (c .before .before .before .if2 .came) (λ w. rw (w .3) (rw (w .2 .ensures .0, w .2 .ensures .1) (w .1 .ensures))) (λ w. (w .0 .left, w .1)) in omega (arith, x .skips .low, x .skips .high))
     (λ c κs. omega arith)
+    (λ c κs. let y = operand _ _ _ _ (c .if3 .b) (λ x. x .next) (λ x. x .word) (c .before .before .leaf2 .ensures) (c .if3 .came) (λ w. rw (w .3) (rw (w .2 .ensures .0, w .2 .ensures .1) (w .1 .ensures))) (λ w. (w .0 .left, w .1)) in omega (arith, y .skips .high))
     (λ c. search needs)
     (λ c κs. omega arith)
     (λ c. search needs)
     (λ c κs. omega arith)
     (λ c κs. omega arith)
-    (λ c κs. let x = operand _ _ _ _ (c .before .before .before .if4 .a) (c .before .before .before .before .leaf3 .ensures) (c .before .before .before .if4 .came) (λ w. rw (w .2) (w .1 .ensures)) (λ w. (w .0 .left, w .1)) in omega (arith, x .skips .low, x .skips .high))
+    (λ c κs. let x = operand _ _ _ _ (c .if4 .a) (λ x. x .next) (λ x. x .word) (c .before .before .leaf3 .ensures) (c .if4 .came) (λ w. rw (w .3) (rw (w .2 .ensures .0, w .2 .ensures .1) (w .1 .ensures))) (λ w. (w .0 .left, w .1)) in omega (arith, x .skips .low, x .skips .high))
+    (λ c κs. let x = operand _ _ _ _ (c .before .before .before .if4 .a) (λ x. x .next) (λ x. x .word) (c .before .before .before .before .before .leaf3 .ensures) (c .before .before .before .if4 .came) (λ w. rw (w .3) (rw (w .2 .ensures .0, w .2 .ensures .1) (w .1 .ensures))) (λ w. (w .0 .left, w .1)) in omega (arith, x .skips .low, x .skips .high))
     (λ c κs. omega arith)
+    (λ c κs. let y = operand _ _ _ _ (c .if5 .b) (λ x. x .next) (λ x. x .word) (c .before .before .leaf4 .ensures) (c .if5 .came) (λ w. rw (w .3) (rw (w .2 .ensures .0, w .2 .ensures .1) (w .1 .ensures))) (λ w. (w .0 .left, w .1)) in omega (arith, y .skips .high))
     (λ c. search needs)
     (λ c κs. omega arith)
     (λ c κs. omega arith)
     (λ c κs. omega arith)
     (λ c κs. omega arith)
+    (λ c κs. omega (arith, c .before .pass-value .ensures .high))
     (λ c κs. omega arith)
-    (λ c κs. omega arith)
-    (λ c κs. omega arith)
+    (λ c κs. omega (arith, c .pass-value2 .ensures .low, c .pass-value2 .ensures .high, c .before .before .condition .ensures .skips .low))
     (λ c κs. omega arith)
     (λ c. search needs)
     (λ c κs. omega arith)
-    (λ c. as-packed _ _ _ _ _ _ (c .plus .ensures) (evaluates-plus _ _ _ (c .before .before .before .before .before .before .before .before .if1 .taken) _ _ _ _ (operand _ _ _ _ (c .before .before .before .before .if2 .a) (c .before .before .before .before .before .leaf .ensures) (c .before .before .before .before .if2 .came) (λ w. rw (w .2) (w .1 .ensures)) (λ w. (w .0 .left, w .1))) (operand _ _ _ _ (c .before .if3 .b) (c .before .before .leaf2 .ensures) (c .before .if3 .came) (λ w. rw (w .2) (w .1 .ensures)) (λ w. (w .0 .left, w .1))) (c .before .before .before .before .before .before .match .keys1)))
-    (λ c. as-packed _ _ _ _ _ _ (c .minus .ensures) (evaluates-minus _ _ _ (c .before .before .before .before .before .before .before .before .if1 .taken) _ _ _ _ (operand _ _ _ _ (c .before .before .before .before .if4 .a) (c .before .before .before .before .before .leaf3 .ensures) (c .before .before .before .before .if4 .came) (λ w. rw (w .2) (w .1 .ensures)) (λ w. (w .0 .left, w .1))) (operand _ _ _ _ (c .before .if5 .b) (c .before .before .leaf4 .ensures) (c .before .if5 .came) (λ w. rw (w .2) (w .1 .ensures)) (λ w. (w .0 .left, w .1))) (c .before .before .before .before .before .before .match .keys2)))
-    (λ c. as-packed _ _ _ _ _ _ (rw (c .before .word-of .ensures) at (c .packed2 .ensures)) (choose-left _ _ _ (c .before .before .before .before .before .before .before .before .if1 .taken) _ _ _ _ (c .before .before .before .before .before .condition .ensures) _ (c .before .before .before .before .before .before .match .keys3) (c .before .before .before .before .if6 .taken) (c .before .before .before .value5 .ensures) (c .before .before .value6 .ensures)))
-    (λ c. choose-right _ _ _ (c .before .before .before .before .before .before .if1 .taken) _ _ _ _ (c .before .before .before .condition .ensures) _ (c .before .before .before .before .match .keys3) (c .before .before .if6 .left) (c .before .value7 .ensures) (c .value8 .ensures))
-    (λ c. as-packed _ _ _ _ _ _ (c .packed3 .ensures) (c .before .before .leaf5 .ensures .none (c .before .if7 .taken) (c .before .before .before .before .before .if1 .taken, (c .before .before .before .match .rest .0 .0 .1, (c .before .before .before .match .rest .0 .1, c .before .before .before .match .rest .1)))))
-    (λ c. c .before .leaf5 .ensures .found (c .if7 .left))
+    (λ c κs. let x = c .before .before .leaf5 .ensures .found (c .if7 .left) in omega (arith, x .skips .high))
+    (λ c. as-packed _ _ _ _ _ _ (c .plus .ensures) (evaluates-plus _ _ _ (c .before .before .before .before .before .before .before .before .before .if1 .taken) _ _ _ _ (operand _ _ _ _ (c .before .before .before .before .if2 .a) (λ x. x .next) (λ x. x .word) (c .before .before .before .before .before .before .leaf .ensures) (c .before .before .before .before .if2 .came) (λ w. rw (w .3) (rw (w .2 .ensures .0, w .2 .ensures .1) (w .1 .ensures))) (λ w. (w .0 .left, w .1))) (operand _ _ _ _ (c .before .if3 .b) (λ x. x .next) (λ x. x .word) (c .before .before .before .leaf2 .ensures) (c .before .if3 .came) (λ w. rw (w .3) (rw (w .2 .ensures .0, w .2 .ensures .1) (w .1 .ensures))) (λ w. (w .0 .left, w .1))) (c .before .before .before .before .before .before .before .match .keys1)))
+    (λ c. as-packed _ _ _ _ _ _ (c .minus .ensures) (evaluates-minus _ _ _ (c .before .before .before .before .before .before .before .before .before .if1 .taken) _ _ _ _ (operand _ _ _ _ (c .before .before .before .before .if4 .a) (λ x. x .next) (λ x. x .word) (c .before .before .before .before .before .before .leaf3 .ensures) (c .before .before .before .before .if4 .came) (λ w. rw (w .3) (rw (w .2 .ensures .0, w .2 .ensures .1) (w .1 .ensures))) (λ w. (w .0 .left, w .1))) (operand _ _ _ _ (c .before .if5 .b) (λ x. x .next) (λ x. x .word) (c .before .before .before .leaf4 .ensures) (c .before .if5 .came) (λ w. rw (w .3) (rw (w .2 .ensures .0, w .2 .ensures .1) (w .1 .ensures))) (λ w. (w .0 .left, w .1))) (c .before .before .before .before .before .before .before .match .keys2)))
+    (λ c. as-packed _ _ _ _ _ _ (rw (c .before .word-of .ensures) at (c .packed2 .ensures)) (choose-left _ _ _ (c .before .before .before .before .before .before .before .before .if1 .taken) _ _ _ _ (c .before .before .before .before .before .condition .ensures) _ (c .before .before .before .before .before .before .match .keys3) (c .before .before .before .before .if6 .taken) (c .before .before .before .value5 .ensures) (c .before .before .pass-value .ensures)))
+    (λ c. choose-right _ _ _ (c .before .before .before .before .before .before .if1 .taken) _ _ _ _ (c .before .before .before .condition .ensures) _ (c .before .before .before .before .match .keys3) (c .before .before .if6 .left) (c .before .pass-value2 .ensures) (c .value6 .ensures))
+    (λ c. as-packed _ _ _ _ _ _ (c .packed3 .ensures) (c .before .before .before .leaf5 .ensures .none (c .before .if7 .taken) (c .before .before .before .before .before .before .if1 .taken, (c .before .before .before .before .match .rest .0 .0 .1, (c .before .before .before .before .match .rest .0 .1, c .before .before .before .before .match .rest .1)))))
+    (λ c. as-packed _ _ _ _ _ _ (c .packed4 .ensures) (c .before .before .before .leaf5 .ensures .found (c .before .if7 .left)))

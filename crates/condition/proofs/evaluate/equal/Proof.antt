@@ -6,9 +6,7 @@ use Rattle.condition.proofs.evaluate.equal.Tie as tie
 
 returns : tie.Need-returns
 unfolding equalWord
-returns c = rw (c .before .before .word-of .ensures, c .before .word-of2 .ensures) at (c .judged .ensures)
+returns c = c .judged .ensures
 
 pub equal-spec : {M : Type 1} → statement M
-equal-spec =
-    tie.close
-    (tie.spec (λ c κs. search needs) (λ c κs. search needs) (λ c κs. search needs) returns)
+equal-spec = tie.close (tie.spec (λ c κs. search needs) returns)

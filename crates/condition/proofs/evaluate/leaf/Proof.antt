@@ -1,7 +1,7 @@
 -- `evaluate::leaf` meets its contract. Assumes nothing.
 use native.Mathlib.Omega.{arith}
 use borrow.Author.Needs.{needs}
-use Rattle.condition.proofs.Evaluating.{leaf-short, leaf-none, as-leaf, evaluates-literal, evaluates-program, evaluates-monitor, evaluates-entry}
+use Rattle.condition.proofs.Evaluating.{leaf-short, leaf-none, leaf-literal, leaf-variable}
 use Rattle.condition.proofs.evaluate.leaf.Statement.{statement}
 use Rattle.condition.proofs.evaluate.leaf.Tie as tie
 
@@ -9,21 +9,18 @@ returns : tie.Need-returns
 returns c = leaf-short _ _ _ (c .if1 .left)
 
 returns-2 : tie.Need-returns-2
-returns-2 c = as-leaf _ _ _ _ _ _ (c .literal .ensures) (evaluates-literal _ _ _ (omega arith) (c .before .match .keys1))
+returns-2 c = leaf-literal _ _ _ (omega arith) _ _ _ (c .before .before .wide .ensures .0) (c .before .if2 .taken) (c .literal .ensures)
 
 returns-3 : tie.Need-returns-3
-returns-3 c = as-leaf _ _ _ _ _ _ (c .variable .ensures) (evaluates-program _ _ _ (omega arith) (c .before .match .keys2))
+returns-3 c = leaf-none _ _ _ _ (c .before .before .wide .ensures .0) (c .before .if2 .left) (λ e. omega (arith, c .if3 .left)) (λ e. omega (arith, c .if3 .left)) (λ e. omega (arith, c .if3 .left))
 
 returns-4 : tie.Need-returns-4
-returns-4 c = as-leaf _ _ _ _ _ _ (c .variable2 .ensures) (evaluates-monitor _ _ _ (omega arith) (c .before .match .keys3))
+returns-4 c = leaf-none _ _ _ _ (c .before .before .before .wide .ensures .0) (c .before .before .if2 .left) (λ e. omega (arith, c .if4 .left)) (λ e. omega (arith, c .if4 .left)) (λ e. omega (arith, c .if4 .left))
 
 returns-5 : tie.Need-returns-5
-returns-5 c = as-leaf _ _ _ _ _ _ (c .variable3 .ensures) (evaluates-entry _ _ _ (omega arith) (c .before .match .keys4))
-
-returns-6 : tie.Need-returns-6
-returns-6 c = leaf-none _ _ _ (c .match .rest .0 .0 .0 .1) (c .match .rest .0 .0 .1) (c .match .rest .0 .1) (c .match .rest .1)
+returns-5 c = leaf-variable (c .before .before .before .before .before .before .before .before .args .e .now) _ _ (omega arith) _ _ _ (c .before .before .before .before .before .wide .ensures .0) (c .before .before .before .if3 .taken) (c .before .before .if4 .taken) (c .variable .ensures)
 
 pub leaf-spec : {M : Type 1} → statement M
 leaf-spec =
     tie.close
-    (tie.spec (λ c. search needs) returns (λ c. search needs) (λ c κs. search needs) (λ c κs. search needs) (λ c κs. search needs) (λ c κs. search needs) returns-2 returns-3 returns-4 returns-5 returns-6)
+    (tie.spec (λ c. search needs) returns (λ c. search needs) (λ c κs. search needs) (λ c κs. search needs) returns-2 returns-3 returns-4 (λ c. search needs) (λ c. omega (arith, c .if4 .taken)) (λ c κs. search needs) returns-5)

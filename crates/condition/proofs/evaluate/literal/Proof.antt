@@ -8,7 +8,7 @@ use Rattle.condition.proofs.evaluate.literal.Statement.{statement}
 use Rattle.condition.proofs.evaluate.literal.Tie as tie
 
 returns : tie.Need-returns
-returns c = rw (le-leb _ _ (c .before .before .before .before .before .before .if1 .taken), ← c .before .big-endian .ensures) (tried _ (omega (arith, c .packed .ensures .place)) (c .packed .ensures))
+returns c = rw (le-leb _ _ (c .before .before .before .before .before .if1 .taken)) (tried _ (omega arith) (refl, c .big-endian .ensures))
 
 returns-2 : tie.Need-returns-2
 returns-2 c = rw (lt-leb _ _ (c .if1 .left)) (tried-none (refl, refl))
@@ -16,4 +16,4 @@ returns-2 c = rw (lt-leb _ _ (c .if1 .left)) (tried-none (refl, refl))
 pub literal-spec : {M : Type 1} → statement M
 literal-spec =
     tie.close
-    (tie.spec (λ c. search needs) (λ c. search needs) (λ c. search needs) (λ c. search needs) (λ c. search needs) (λ c. search needs) (λ c. search needs) (λ c. search needs) (λ c. search needs) (λ c. search needs) (λ c κs. search needs) (λ c κs. search needs) returns returns-2)
+    (tie.spec (λ c. search needs) (λ c. search needs) (λ c. search needs) (λ c. search needs) (λ c. search needs) (λ c. search needs) (λ c. search needs) (λ c. search needs) (λ c. search needs) (λ c. search needs) (λ c κs. search needs) returns returns-2)

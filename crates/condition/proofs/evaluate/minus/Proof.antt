@@ -4,9 +4,7 @@ use Rattle.condition.proofs.evaluate.minus.Statement.{statement}
 use Rattle.condition.proofs.evaluate.minus.Tie as tie
 
 returns : tie.Need-returns
-returns c = rw (c .before .minus .ensures, c .before .before .before .word-of .ensures, c .before .before .word-of2 .ensures) at (c .packed .ensures)
+returns c = rw (c .before .minus .ensures) at (c .packed .ensures)
 
 pub minus-spec : {M : Type 1} → statement M
-minus-spec =
-    tie.close
-    (tie.spec (λ c κs. search needs) (λ c κs. search needs) (λ c κs. search needs) (λ c κs. search needs) returns)
+minus-spec = tie.close (tie.spec (λ c κs. search needs) (λ c κs. search needs) returns)

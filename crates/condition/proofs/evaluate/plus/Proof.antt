@@ -4,9 +4,7 @@ use Rattle.condition.proofs.evaluate.plus.Statement.{statement}
 use Rattle.condition.proofs.evaluate.plus.Tie as tie
 
 returns : tie.Need-returns
-returns c = rw (c .before .plus .ensures, c .before .before .before .word-of .ensures, c .before .before .word-of2 .ensures) at (c .packed .ensures)
+returns c = rw (c .before .plus .ensures) at (c .packed .ensures)
 
 pub plus-spec : {M : Type 1} → statement M
-plus-spec =
-    tie.close
-    (tie.spec (λ c κs. search needs) (λ c κs. search needs) (λ c κs. search needs) (λ c κs. search needs) returns)
+plus-spec = tie.close (tie.spec (λ c κs. search needs) (λ c κs. search needs) returns)

@@ -4,9 +4,7 @@ use Rattle.condition.proofs.evaluate.within.Statement.{statement}
 use Rattle.condition.proofs.evaluate.within.Tie as tie
 
 returns : tie.Need-returns
-returns c = rw (c .before .within .ensures, c .before .before .before .before .word-of .ensures, c .before .before .before .word-of2 .ensures, c .before .before .word-of3 .ensures) at (c .judged .ensures)
+returns c = rw (c .before .within .ensures) at (c .judged .ensures)
 
 pub within-spec : {M : Type 1} → statement M
-within-spec =
-    tie.close
-    (tie.spec (λ c κs. search needs) (λ c κs. search needs) (λ c κs. search needs) (λ c κs. search needs) (λ c κs. search needs) returns)
+within-spec = tie.close (tie.spec (λ c κs. search needs) (λ c κs. search needs) returns)
