@@ -17,12 +17,8 @@ pub mod Moving
 pub mod Views
 pub mod Entering
 pub mod Answering
-pub mod Following
 pub mod Testing
 pub mod Checks
 pub mod Leaving
-pub mod Entries
 pub mod Skipping
-pub mod Releasing
-pub mod Admitting
-pub mod Rowing
+pub mod Machined

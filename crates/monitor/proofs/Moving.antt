@@ -33,8 +33,7 @@ use Rattle.monitor.specs.declared.event.Tables.{Tables}
 use Rattle.monitor.specs.declared.WatchState.{WatchState}
 use Rattle.monitor.specs.Monitor.{refusal}
 use Rattle.monitor.specs.Padded.{view}
-use Rattle.monitor.specs.Firsts.{Past}
-use Rattle.monitor.specs.Walk.{Prepared, actionsOf, movedTo}
+use Rattle.monitor.specs.Walk.{Prepared, Past, actionsOf, movedTo}
 use Rattle.monitor.proofs.Calls.{free}
 
 -- from the tables and indexes that are lent

@@ -6,5 +6,3 @@ pub mod Padded
 pub mod Answers
 pub mod Demand
 pub mod Walk
-pub mod Row
-pub mod Firsts

@@ -9,24 +9,20 @@ use Rattle.condition.specs.Meaning.{environment}
 use Rattle.sheet.specs.declared.Triple.{Triple}
 use Rattle.sheet.specs.Parts.{Sheet}
 use Rattle.sheet.specs.Log.{Event}
-use Rattle.step.specs.declared.Verdict.{Verdict}
 use Rattle.step.specs.Lists.{first, keep, numbers, least}
 use Rattle.step.specs.Meets.{meets}
 use Rattle.step.specs.Moves.{Configuration, seen, moved}
 use Rattle.step.specs.Calls.{Call, isEntry, refusals, lowest}
 use Rattle.step.specs.Verdicts.{verdict, isJudged}
 use Rattle.step.specs.Runs.{Offered, offered, Ran, runFrom}
+use Rattle.engine.specs.Machine as Machine
 
--- an open call with the numbers of the triples armed for it
-pub record Armed : Type 0 where
-  pub call : Call
-  pub armed : List ℕ
+-- an open call with the numbers of the triples armed for it, and a state: those of every machine
+abbrev pub Armed : Type 0
+Armed = Machine.Armed
 
-pub record State : Type 0 where
-  pub configuration : Configuration
-  pub calls : List Armed
-  pub position : ℕ
-  pub verdict : Option Verdict
+abbrev pub State : Type 0
+State = Machine.State
 
 -- "start state, initial values"
 abbrev pub initial : Sheet → Configuration

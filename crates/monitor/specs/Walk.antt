@@ -1,10 +1,10 @@
 -- What the private functions promise.
 use mathlib.Core.Path.{_≡_}
-use mathlib.Core.Bool.{Bool, true, not, cond, _&&_}
+use mathlib.Core.Bool.{Bool, true, false, not, cond, _&&_}
 use mathlib.Core.List.{List, [], _∷_}
-use Prim.Native.Nat.{ℕ, _+_, _*_}
+use Prim.Native.Nat.{ℕ, _+_, _*_, _≤_}
 use lib.Dec.{eqb}
-use lib.ListN.{drop}
+use lib.ListN.{length, take, drop}
 use Rattle.condition.specs.Meaning.{Environment}
 use Rattle.sheet.specs.declared.Triple.{Triple}
 use Rattle.sheet.specs.Decode.{transitionForm, tripleForm, transitionsAt, lastAt, commonOf, sheetOf}
@@ -12,6 +12,7 @@ use Rattle.sheet.specs.Reading.{reading, sheetLayout}
 use Rattle.sheet.specs.Log.{Event}
 use Rattle.sheet.specs.Answer.{headerOf, placesOf}
 use Rattle.step.specs.declared.Moved.{Moved}
+use Rattle.step.specs.Lists.{any}
 use Rattle.step.specs.Moves.{Configuration}
 use Rattle.step.specs.Walk as Walk
 use Rattle.step.specs.Walk.{meetsAt}
@@ -70,3 +71,8 @@ unfoldable pub keepBeside : {A B : Type 0} → (A → Bool) → List A → List 
 keepBeside p [] m = []
 keepBeside p (x ∷ l) [] = []
 keepBeside p (x ∷ l) (y ∷ m) = cond (p x) (y ∷ keepBeside p l m) (keepBeside p l m)
+
+-- The first i elements do not pass a test.
+pub record Past {A : Type 0} (p : A → Bool) (l : List A) (i : ℕ) : Type 0 where
+  pub none : any p (take i l) ≡ false
+  pub low : i ≤ length l

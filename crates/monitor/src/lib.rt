@@ -14,9 +14,7 @@ use step::Outcome;
 use step::RunAnswer;
 
 mod event;
-mod firsts;
 mod follow;
-mod row;
 mod sound;
 
 // The triples armed for an open call: the first `count` of four numbers.
@@ -126,8 +124,5 @@ pub fn offer(s: &[u8], state: WatchState, event: Record, values: &[u32]) -> Offe
 pub fn run(s: &[u8], log: &[u8]) -> RunAnswer
     ensures { λ r. ⌜ r ≡ runOf (now (s .entry)) (now (log .entry)) ⌝ }
 {
-    match sheet::read_sheet(s) {
-        Reading::Accepted => follow::run_accepted(s, log),
-        Reading::Refused(n) => RunAnswer::Refused(n),
-    }
+    engine::run_sheet(s, log)
 }

@@ -17,4 +17,7 @@ pub mod Moving
 pub mod Entering
 pub mod Leaving
 pub mod Answering
-pub mod Following
+pub mod Bound
+pub mod Apart
+pub mod ByCalls
+pub mod Runs

@@ -2,5 +2,6 @@
 pub mod Network
 pub mod Sound
 pub mod Padded
+pub mod Grouped
 pub mod Answers
 pub mod Walk

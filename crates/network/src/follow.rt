@@ -1,16 +1,13 @@
-// Offering an event and running a log, on an accepted network.
+// Offering an event on an accepted network.
 
 ghost use mathlib.Core.Path.{_≡_};
 ghost use mathlib.Core.Bool.{true};
 ghost use Prim.Native.Nat.{_<_};
-ghost use Rattle.sheet.specs.Bytes.{byte, half};
+ghost use Rattle.sheet.specs.Bytes.{half};
 ghost use Rattle.sheet.specs.Decode.{networkOf};
 ghost use Rattle.sheet.specs.Reading.{reading, networkLayout};
-ghost use Rattle.sheet.specs.Log.{logReading, eventsOf};
-ghost use Rattle.step.specs.Answers.{ranAnswer};
 ghost use Rattle.step.specs.Walk.{eventOf};
-ghost use Rattle.network.specs.Network as Network;
-ghost use Rattle.network.specs.Answers.{endsIn, offerOf, runOf};
+ghost use Rattle.network.specs.Answers.{offerOf};
 ghost use Rattle.network.specs.Padded.{soundState};
 ghost use Rattle.network.specs.Walk.{Prepared, Ready, actionsOf};
 use crate::NetworkState;
@@ -18,14 +15,10 @@ use crate::Offered;
 use crate::event;
 use crate::event::Tables;
 use crate::event::wide;
-use crate::event::word;
 use crate::sound;
 use sheet::Header;
-use sheet::LogReading;
 use sheet::Record;
 use step::Answer;
-use step::Outcome;
-use step::RunAnswer;
 
 pub(crate) fn offer_accepted(
     s: &[u8],
@@ -74,63 +67,6 @@ fn offer_sound(
             state,
         }
     }
-}
-
-pub(crate) fn run_accepted(s: &[u8], log: &[u8]) -> RunAnswer
-    requires { ⌜ reading networkLayout (now s) ≡ 0 ⌝ }
-    ensures { λ r. ⌜ r ≡ runOf (now (s .entry)) (now (log .entry)) ⌝ }
-{
-    let h = sheet::header_of(s);
-    match sheet::read_log(log, h.programs) {
-        LogReading::Records(_) => {
-            let p = sheet::network_places(s);
-            let conditions = p.conditions;
-            let actions = p.actions;
-            let t = tables(h, length_said(s), p.transitions, p.last);
-            follow(s, t, &conditions, &actions, log)
-        }
-        LogReading::Refused(n) => RunAnswer::Refused(n),
-    }
-}
-
-// Follows the records of a log from the fresh state.
-fn follow(
-    s: &[u8],
-    t: Tables,
-    conditions: &[u32; 161],
-    actions: &[u32; 161],
-    log: &[u8],
-) -> RunAnswer
-    requires { ⌜ Prepared (now s) t (now conditions) × (now actions ≡ actionsOf (now s)) × (logReading (byte (now s) 5) (now log) ≡ 0) ⌝ }
-    ensures { λ r. ⌜ r ≡ ranAnswer endsIn (Network.run (networkOf (now (s .entry))) (eventsOf (byte (now (s .entry)) 5) (now (log .entry)))) ⌝ }
-{
-    let h = t.header;
-    let count = wide(h.programs);
-    let size = 4 + 4 * word(h.programs);
-    let end = sheet::word_at(log, 0);
-    let mut state = NetworkState::started(s);
-    let mut i = 0;
-    let mut at = 6;
-    while at < end {
-        let event = sheet::record_at(log, at);
-        let words = sheet::words_at(log, at + 4, h.programs);
-        let values = &words[..count];
-        let number = event::refusal(s, t, conditions, state, event, values);
-        i += 1;
-        if number == 0 {} else {
-            return RunAnswer::RefusedAt(number, i);
-        }
-        state = event::taken(s, t, conditions, actions, state, event, values);
-        let outcome = state.outcome;
-        match outcome {
-            Outcome::Judged(v) => {
-                return RunAnswer::Violated(v);
-            }
-            Outcome::Open => {}
-        }
-        at += size;
-    }
-    RunAnswer::Clean(state.position, state.main, state.opened)
 }
 
 // How long the network is, as its first two bytes say.

@@ -126,10 +126,7 @@ pub fn offer(s: &[u8], state: NetworkState, event: Record, values: &[u32]) -> Of
 pub fn run(s: &[u8], log: &[u8]) -> RunAnswer
     ensures { λ r. ⌜ r ≡ runOf (now (s .entry)) (now (log .entry)) ⌝ }
 {
-    match sheet::read_network(s) {
-        Reading::Accepted => follow::run_accepted(s, log),
-        Reading::Refused(n) => RunAnswer::Refused(n),
-    }
+    engine::run_network(s, log)
 }
 
 // The values at entry of the living checker at a place of the row: those that its call keeps. Zeros

@@ -108,6 +108,27 @@ module _ {T R : Type 0} {F : Layout T R} {s : List ℕ} (a : Accepted F s) (few 
       let l : lent E ≡ unkept (lentIn (commonOf s)) = rw (p, m) in
       by-number E _ (evaluated (without-entry g (named g (λ d. conditionNames d isAtEntry) n)) E l ∙ sym (meant g E))
 
+  -- what it parses to: for a condition that has no value-at-entry, and with everything lent
+  pub guard-read : namesEntry (commonOf s) (conditionIn (commonOf s) i) ≡ false → (values variables : List ℕ) → length values ≡ commonOf s .programs → length variables ≡ commonOf s .monitors
+      → (c : Condition) × (sized (conditionIn (commonOf s) i) ≡ true) × (parseCondition (lent (environment values variables [])) (conditionIn (commonOf s) i) ≡ some c)
+      × (meets (commonOf s) i (environment values variables []) ≡ holds c (environment values variables []))
+  unfolding meets
+  guard-read n values variables p m =
+      let (c, g) = there in
+      let E = environment values variables [] in
+      let l : lent E ≡ unkept (lentIn (commonOf s)) = rw (p, m) in
+      (c, g .fits, rw l (without-entry g (named g (λ d. conditionNames d isAtEntry) n) .tree), meant g E)
+
+  pub full-read : (values variables kept : List ℕ) → length values ≡ commonOf s .programs → length variables ≡ commonOf s .monitors → length kept ≡ commonOf s .programs
+      → (c : Condition) × (sized (conditionIn (commonOf s) i) ≡ true) × (parseCondition (lent (environment values variables kept)) (conditionIn (commonOf s) i) ≡ some c)
+      × (meets (commonOf s) i (environment values variables kept) ≡ holds c (environment values variables kept))
+  unfolding meets
+  full-read values variables kept p m k =
+      let (c, g) = there in
+      let E = environment values variables kept in
+      let l : lent E ≡ lentIn (commonOf s) = rw (p, m, k) in
+      (c, g .fits, rw l (g .tree), meant g E)
+
   module _ (quiet : namesMonitor (commonOf s) (conditionIn (commonOf s) i) ≡ false) (values m : List ℕ) (p : length values ≡ commonOf s .programs) where
     pub before-meets : namesEntry (commonOf s) (conditionIn (commonOf s) i) ≡ false
         → meetsAt s (conditionPlaces s) i (environment values [] []) ≡ meets (commonOf s) i (environment values m [])

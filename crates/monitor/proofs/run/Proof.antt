@@ -1,17 +1,14 @@
 -- `run` meets its contract. Assumes nothing.
-use Rattle.monitor.proofs.Answering.{run-unread}
+use mathlib.Core.Path.{_∙_}
 use borrow.Author.Needs.{needs}
-use Rattle.sheet.proofs.Answers.{answer-accepted}
+use Rattle.monitor.proofs.Machined.{answer-same}
 use Rattle.monitor.proofs.run.Statement.{statement}
 use Rattle.monitor.proofs.run.Tie as tie
 
-run-accepted-requires : tie.Need-run-accepted-requires
-run-accepted-requires c κs = answer-accepted _ _ (c .before .before .read-sheet .ensures) (search needs)
-
-returns-2 : tie.Need-returns-2
-returns-2 c = run-unread _ _ (c .before .before .before .read-sheet .ensures) _ (search needs) _
+returns : tie.Need-returns
+returns c =
+    let a = c .before .before .before .args in
+    c .run-sheet .ensures ∙ answer-same (a .s .now) (a .log .now)
 
 pub run-spec : {M : Type 1} → statement M
-run-spec =
-    tie.close
-    (tie.spec (λ c κs. search needs) (λ c. search needs) run-accepted-requires (λ c. search needs) (λ c. search needs) returns-2)
+run-spec = tie.close (tie.spec (λ c κs. search needs) returns)

@@ -1,0 +1,48 @@
+-- `event::arm` meets its contract. Assumes nothing.
+use mathlib.Core.Logic.{⊎-elim}
+use mathlib.Core.List.{[]}
+use Prim.Native.Nat.{_-_}
+use borrow.Author.Needs.{needs}
+use Rattle.condition.specs.Meaning.{environment}
+use Rattle.engine.specs.Walk.{armedIn}
+use Rattle.engine.proofs.Chains.{armed-past, armed-here, armed-behind}
+use Rattle.engine.proofs.Arming.{Storing, storing-start, storing-store, storing-past, storing-leave, storing-end}
+use Rattle.engine.proofs.event.arm.Statement.{statement}
+use Rattle.engine.proofs.event.arm.Tie as tie
+
+abbrev Inv-loop : tie.InvT-loop
+Inv-loop s plan first program monitor row₀ at count₀ to₀ i₀ row count to i =
+    Storing (armedIn s plan first (environment program monitor [])) row₀ at (armedIn s plan i (environment program monitor [])) row count to i
+
+abbrev μ-loop : tie.MeasureT-loop
+μ-loop s plan first program monitor row₀ at count₀ to₀ i₀ row count to i = 384 - i
+
+loop-holds : tie.Need-loop-holds Inv-loop μ-loop
+loop-holds c = storing-start _ _ _ _
+
+loop-again : tie.Need-loop-again Inv-loop μ-loop
+loop-again c =
+    let a = c .before .before .before .before .before .before .before .before .before .before .before .before .args in
+    let E = environment (a .program .now) (a .monitor .now) [] in
+    let g = c .before .before .before .before .before .before .before .before .loop .inv in
+    let i = c .before .before .before .before .before .before .before .before .loop .i in
+    let h = c .before .before .before .before .before .before .before .loop-test .taken in
+    ⊎-elim
+    (λ w.
+    let t = armed-here (a .s .now) (a .plan .now) E i h _ (c .before .before .before .before .before .place .ensures .0) _ (c .before .before .before .holds .ensures) _ (c .place2 .ensures .0) (w .0 .taken) in
+    ⊎-elim
+    (λ v. rw (w .2, w .3, w .4, v .2, v .3) (storing-store _ _ _ _ _ _ _ _ g _ _ t _ (v .0 .taken)))
+    (λ v. rw (w .2, w .3, w .4, v .1, v .2) (storing-past _ _ _ _ _ _ _ _ g _ _ t _ (v .0 .left)))
+    (w .1 .came))
+    (λ w. rw (w .1, w .2, w .3) (storing-leave _ _ _ _ _ _ _ _ g _ (armed-behind (a .s .now) (a .plan .now) E i h _ (c .before .before .before .before .before .place .ensures .0) _ (c .before .before .before .holds .ensures) _ (c .place2 .ensures .0) (w .0 .left)) _))
+    (c .before .before .if1 .came)
+
+returns : tie.Need-returns Inv-loop μ-loop
+returns c =
+    let a = c .before .before .before .before .before .args in
+    storing-end _ _ _ _ _ _ _ _ (c .before .loop .inv) (armed-past (a .s .now) (a .plan .now) (environment (a .program .now) (a .monitor .now) []) _ (c .loop-test .left))
+
+pub arm-spec : {M : Type 1} → statement M
+arm-spec =
+    tie.close
+    (tie.spec Inv-loop μ-loop (λ c. search needs) loop-holds (λ c. search needs) (λ c. search needs) (λ c. search needs) (λ c. search needs) (λ c κs. search needs) (λ c. search needs) (λ c κs. search needs) (λ c. search needs) (λ c. search needs) (λ c. search needs) (λ c. search needs) (λ c. search needs) (λ c. search needs) (λ c. search needs) (λ c. search needs) (λ c. search needs) (λ c. search needs) (λ c. search needs) (λ c. search needs) (λ c. search needs) (λ c κs. search needs) (λ c. search needs) (λ c. search needs) loop-again (λ c. search needs) (λ c. search needs) (λ c. search needs) returns)

@@ -1,0 +1,15 @@
+-- `plan::heads` meets its contract. Assumes nothing.
+use borrow.Author.Needs.{needs}
+use Rattle.engine.proofs.Storing.{head-words}
+use Rattle.engine.proofs.plan.heads.Statement.{statement}
+use Rattle.engine.proofs.plan.heads.Tie as tie
+
+returns : tie.Need-returns
+returns c =
+    let a = c .before .before .before .before .args in
+    head-words (a .plan .now) (a .h) (a .paired) _ _ _ _ (c .before .before .before .word .ensures .0) (c .before .before .word2 .ensures .0) (c .before .word3 .ensures .0) (c .long .ensures .0)
+
+pub heads-spec : {M : Type 1} → statement M
+heads-spec =
+    tie.close
+    (tie.spec (λ c κs. search needs) (λ c. search needs) (λ c κs. search needs) (λ c. search needs) (λ c κs. search needs) (λ c. search needs) (λ c κs. search needs) (λ c. search needs) (λ c. search needs) returns)

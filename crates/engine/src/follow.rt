@@ -1,0 +1,113 @@
+// Following a log in place, record by record: each event's values are read straight off the log.
+
+ghost use mathlib.Core.Path.{_≡_};
+ghost use Prim.Native.Nat.{_+_, _*_, _≤_};
+ghost use lib.ListN.{length};
+ghost use Rattle.sheet.specs.Bytes.{word};
+ghost use Rattle.sheet.specs.Table.{table, fit};
+ghost use Rattle.sheet.specs.Decode.{wordForm};
+ghost use Rattle.sheet.specs.Log.{logReading, eventsOf};
+ghost use Rattle.step.specs.Answers.{ranAnswer};
+ghost use Rattle.engine.specs.Runs.{startIn, followIn, endsBy, givenAt};
+use crate::Given;
+use crate::PLAN;
+use crate::Running;
+use crate::advance;
+use crate::place;
+use crate::wide;
+use step::Outcome;
+use step::RunAnswer;
+
+// Follows the records of a log, of so many values each, from the state before the first event.
+pub(crate) fn follow(s: &[u8], plan: &[u32; PLAN], log: &[u8], programs: u8) -> RunAnswer
+    requires { ⌜ (logReading programs (now log) ≡ 0) × (programs ≤ 8) ⌝ }
+    ensures { λ r. ⌜ r ≡ ranAnswer endsBy (followIn (now (s .entry)) (now (plan .entry)) (eventsOf programs (now (log .entry)))) ⌝ }
+{
+    let count = wide(programs);
+    let size = 4 + 4 * count;
+    let end = place(sheet::word_at(log, 0));
+    let mut run = started(s);
+    let mut row = [0u32; 256];
+    let mut variables = initial(s);
+    let mut i: u32 = 0;
+    let mut at = 6;
+    while at < end {
+        let given = given_at(log, at, programs);
+        let values = values_at(log, at + 4, count);
+        let next = advance(s, plan, run, &mut row, &mut variables, given, &values);
+        i += 1;
+        if next.answer == 0 {} else {
+            return RunAnswer::RefusedAt(next.answer, i);
+        }
+        run = next.run;
+        let outcome = run.outcome;
+        match outcome {
+            Outcome::Judged(v) => {
+                return RunAnswer::Violated(v);
+            }
+            Outcome::Open => {}
+        }
+        at += size;
+    }
+    RunAnswer::Clean(run.position, run.main, run.opened)
+}
+
+// What is beside calls and variables before the first event.
+fn started(s: &[u8]) -> Running
+    ensures { λ r. ⌜ r ≡ startIn (now (s .entry)) .run ⌝ }
+{
+    let h = sheet::header_of(s);
+    Running {
+        main: h.start,
+        opened: 0,
+        position: 0,
+        outcome: Outcome::Open,
+    }
+}
+
+// The initial values of the variables.
+fn initial(s: &[u8]) -> [u32; 4]
+    ensures { λ r. ⌜ r ≡ startIn (now (s .entry)) .variables ⌝ }
+{
+    let h = sheet::header_of(s);
+    let w = sheet::words_at(s, 14, h.monitors);
+    [w[0], w[1], w[2], w[3]]
+}
+
+// The record at a place, without its values.
+fn given_at(log: &[u8], at: usize, programs: u8) -> Given
+    requires { ⌜ at + 4 ≤ length (now log) ⌝ }
+    ensures { λ r. ⌜ r ≡ givenAt (now (log .entry)) at programs ⌝ }
+{
+    Given {
+        kind: log[at],
+        unit: log[at + 1],
+        number: (wide(log[at + 2]) * 256 + wide(log[at + 3])) as u16,
+        count: programs,
+    }
+}
+
+// The n values from a place on, zeros behind them.
+fn values_at(log: &[u8], at: usize, n: usize) -> [u32; 8]
+    requires { ⌜ (at + 4 * n ≤ length (now log)) × (n ≤ 8) ⌝ }
+    ensures { λ r. ⌜ r ≡ fit 8 0 (table wordForm n (now (log .entry)) at) ⌝ }
+{
+    let mut out = [0u32; 8];
+    let mut i = 0;
+    let mut here = at;
+    while i < n {
+        out[i] = word_at(log, here);
+        here += 4;
+        i += 1;
+    }
+    out
+}
+
+// Four bytes, the highest first.
+fn word_at(log: &[u8], at: usize) -> u32
+    requires { ⌜ at + 4 ≤ length (now log) ⌝ }
+    ensures { λ r. ⌜ r ≡ word (now (log .entry)) at ⌝ }
+{
+    (((wide(log[at]) * 256 + wide(log[at + 1])) * 256 + wide(log[at + 2])) * 256
+        + wide(log[at + 3])) as u32
+}

@@ -1,0 +1,156 @@
+// One event on a plan of a sheet or a network, in place: the open calls stand in a row of words, the
+// monitor variables beside it.
+
+ghost use mathlib.Core.Path.{_≡_};
+ghost use Prim.Native.Nat.{_<_, _≤_};
+ghost use Rattle.sheet.specs.Bytes.{byte, half};
+ghost use Rattle.sheet.specs.Log.{logReading, eventsOf};
+ghost use Rattle.step.specs.Answers.{unlessRefused, ranAnswer};
+ghost use Rattle.engine.specs.Runs.{followIn, endsBy, sheetRun, networkRun};
+ghost use Rattle.engine.specs.Walk.{words, offerIn};
+use sheet::LogReading;
+use sheet::Reading;
+use step::Outcome;
+use step::RunAnswer;
+
+mod event;
+mod follow;
+mod plan;
+mod row;
+
+// The words of a plan.
+pub const PLAN: usize = 2344;
+
+// What a state has beside its calls and its variables.
+pub struct Running {
+    pub main: u8,
+    pub opened: u8,
+    pub position: u32,
+    pub outcome: Outcome,
+}
+
+// An event, and how many values come with it.
+pub struct Given {
+    pub kind: u8,
+    pub unit: u8,
+    pub number: u16,
+    pub count: u8,
+}
+
+// What an event comes to: 0 where it is taken, or the refusal's number, and what is beside the calls
+// and variables.
+pub struct Advanced {
+    pub answer: u8,
+    pub run: Running,
+}
+
+// Runs a log from the fresh state of a sheet.
+pub fn run_sheet(s: &[u8], log: &[u8]) -> RunAnswer
+    ensures { λ r. ⌜ r ≡ sheetRun (now (s .entry)) (now (log .entry)) ⌝ }
+{
+    match sheet::read_sheet(s) {
+        Reading::Accepted => {
+            let mut plan = [plan::ABSENT; PLAN];
+            plan::of_sheet(s, &mut plan);
+            run_planned(s, &plan, log)
+        }
+        Reading::Refused(n) => RunAnswer::Refused(n),
+    }
+}
+
+// Runs a log from the fresh state of a network. Its first two bytes say how long it is: places in it
+// are below 65,536.
+pub fn run_network(s: &[u8], log: &[u8]) -> RunAnswer
+    ensures { λ r. ⌜ r ≡ networkRun (now (s .entry)) (now (log .entry)) ⌝ }
+{
+    match sheet::read_network(s) {
+        Reading::Accepted => {
+            let size = length_said(s);
+            let mut plan = [plan::ABSENT; PLAN];
+            plan::of_network(s, &mut plan);
+            run_planned(s, &plan, log)
+        }
+        Reading::Refused(n) => RunAnswer::Refused(n),
+    }
+}
+
+// Reads a log and follows it.
+fn run_planned(s: &[u8], plan: &[u32; PLAN], log: &[u8]) -> RunAnswer
+    requires { ⌜ byte (now s) 5 ≤ 8 ⌝ }
+    ensures { λ r. ⌜ r ≡ unlessRefused (logReading (byte (now (s .entry)) 5) (now (log .entry))) (ranAnswer endsBy (followIn (now (s .entry)) (now (plan .entry)) (eventsOf (byte (now (s .entry)) 5) (now (log .entry))))) ⌝ }
+{
+    let h = sheet::header_of(s);
+    match sheet::read_log(log, h.programs) {
+        LogReading::Records(_) => follow::follow(s, plan, log, h.programs),
+        LogReading::Refused(n) => RunAnswer::Refused(n),
+    }
+}
+
+// How long a network says it is.
+fn length_said(s: &[u8]) -> usize
+    ensures { λ r. ⌜ (r ≡ half (now (s .entry)) 0) × (r < 65536) ⌝ }
+{
+    wide(sheet::byte_at(s, 0)) * 256 + wide(sheet::byte_at(s, 1))
+}
+
+// Offers one event: 9 to 15, or taken. A refused event alters nothing.
+pub(crate) fn advance(
+    s: &[u8],
+    plan: &[u32; PLAN],
+    run: Running,
+    row: &mut [u32; 256],
+    variables: &mut [u32; 4],
+    given: Given,
+    values: &[u32; 8],
+) -> Advanced
+    ensures { λ r. ⌜ r ≡ record { answer = offerIn (now (s .entry)) (now (plan .entry)) (words run (now (row .entry)) (now (variables .entry))) given (now (values .entry)) .answer; run = offerIn (now (s .entry)) (now (plan .entry)) (words run (now (row .entry)) (now (variables .entry))) given (now (values .entry)) .state .run } ⌝ }
+    ensures { λ _. ⌜ (now (row .exit) ≡ offerIn (now (s .entry)) (now (plan .entry)) (words run (now (row .entry)) (now (variables .entry))) given (now (values .entry)) .state .row) × (now (variables .exit) ≡ offerIn (now (s .entry)) (now (plan .entry)) (words run (now (row .entry)) (now (variables .entry))) given (now (values .entry)) .state .variables) ⌝ }
+{
+    if run.opened <= 16 {} else {
+        return Advanced { answer: 9, run };
+    }
+    let place = row::place_of(row, wide(run.opened), long(given.number));
+    let n = row::refusal(plan, run, row, given, place);
+    if n == 0 {} else {
+        return Advanced { answer: n, run };
+    }
+    if given.kind == 0 {
+        Advanced {
+            answer: 0,
+            run: event::entered(s, plan, run, row, variables, given, values),
+        }
+    } else {
+        let leaving = event::Leaving {
+            unit: given.unit,
+            place,
+        };
+        Advanced {
+            answer: 0,
+            run: event::exited(s, plan, run, row, variables, leaving, values),
+        }
+    }
+}
+
+pub(crate) fn wide(x: u8) -> usize
+    ensures { λ r. ⌜ (r ≡ x) × (r < 256) ⌝ }
+{
+    x as usize
+}
+
+pub(crate) fn word(x: u8) -> u32
+    ensures { λ r. ⌜ (r ≡ x) × (r < 256) ⌝ }
+{
+    x as u32
+}
+
+pub(crate) fn long(x: u16) -> u32
+    ensures { λ r. ⌜ (r ≡ x) × (r < 65536) ⌝ }
+{
+    x as u32
+}
+
+pub(crate) fn place(x: u32) -> usize
+    ensures { λ r. ⌜ (r ≡ x) × (r < 4294967296) ⌝ }
+{
+    x as usize
+}
