@@ -52,10 +52,10 @@ unfolding startIn
 started-words s r e variables f = λ i. words (e i) (replicate 256 0) (f i)
 
 -- The record at a place.
-pub given-read : (log : List ℕ) (at P a b : ℕ) → a ≡ byte log (at + 2) → b ≡ byte log (at + 3) → record { kind = byte log at; unit = byte log (at + 1); number = a * 256 + b; count = P } ≡ givenAt log at P
-given-read log at P a b e f =
+pub given-read : (log : List ℕ) (at P a b n : ℕ) → a ≡ byte log (at + 2) → b ≡ byte log (at + 3) → n ≡ P → record { kind = byte log at; unit = byte log (at + 1); number = a * 256 + b; count = n } ≡ givenAt log at P
+given-read log at P a b n e f g =
     let next : at + 3 ≡ at + 2 + 1 = omega arith in
-    rw (e, f, next)
+    rw (e, f, g, next)
 
 module _ (P : ℕ) (log : List ℕ) (at : ℕ) where
   abbrev eventAt : Event

@@ -17,6 +17,7 @@ use Rattle.sheet.specs.Parts.{Common, Paired}
 use Rattle.sheet.specs.Decode.{wide, commonOf, networkOf}
 use Rattle.sheet.specs.Reading.{transitionsOf, lastOf, networkLayout, noTemplate}
 use Rattle.sheet.specs.Log.{Event}
+use Rattle.sheet.specs.Answer.{placesOf}
 use Rattle.sheet.proofs.Accepted.{Accepted, GoodPair, bounds, network-transition, network-pair, network-pairs, network-template}
 use Rattle.sheet.proofs.Placed.{conditionPlaces, actionPlaces, network-few}
 use Rattle.sheet.proofs.Tables.{every-map}
@@ -47,7 +48,7 @@ module _ {s : List ℕ} (a : Accepted networkLayout s) (short : length s ≤ 655
   abbrev p : List ℕ
   p = networkPlan s
 
-  y : NetworkPlanned s (conditionPlaces s) (actionPlaces s) (transitionsOf networkLayout s) (lastOf networkLayout s) (networkPlan s)
+  y : NetworkPlanned s (conditionPlaces s) (actionPlaces s) (placesOf networkLayout s .last) (transitionsOf networkLayout s) (lastOf networkLayout s) (networkPlan s)
   y = network-planned a
 
   abbrev qs : List Paired

@@ -15,6 +15,7 @@ use Rattle.sheet.specs.Parts.{Common}
 use Rattle.sheet.specs.Decode.{commonOf, sheetOf}
 use Rattle.sheet.specs.Reading.{together, transitionsOf, lastOf, sheetLayout}
 use Rattle.sheet.specs.Log.{Event}
+use Rattle.sheet.specs.Answer.{placesOf}
 use Rattle.sheet.proofs.Accepted.{Accepted, bounds, sheet-transition, sheet-triple, sheet-together}
 use Rattle.sheet.proofs.Placed.{conditionPlaces, actionPlaces}
 use Rattle.sheet.proofs.Tables.{and-assoc, and-both}
@@ -71,7 +72,7 @@ module _ {s : List ℕ} (a : Accepted sheetLayout s) (short : length s ≤ 65535
   abbrev p : List ℕ
   p = sheetPlan s
 
-  y : SheetPlanned s (conditionPlaces s) (actionPlaces s) (transitionsOf sheetLayout s) (lastOf sheetLayout s) (sheetPlan s)
+  y : SheetPlanned s (conditionPlaces s) (actionPlaces s) (placesOf sheetLayout s .last) (transitionsOf sheetLayout s) (lastOf sheetLayout s) (sheetPlan s)
   y = sheet-planned a
 
   x : Moves s (conditionPlaces s) (actionPlaces s) (map (λ t. t) (transitionsOf sheetLayout s)) (sheetPlan s)

@@ -6,12 +6,12 @@ use Prim.Native.Nat.{ℕ, zero, suc, _+_, _-_, _*_, _≤_, _<_, min}
 use native.Mathlib.Omega.{arith}
 use lib.Dec.{eqb}
 use lib.ListN.{length, getD, drop, length-replicate, replicate}
-use lib.Seq.{length-sets}
+use lib.Seq.{sets, length-sets}
 use Rattle.sheet.specs.Bytes.{byte}
 use Rattle.sheet.specs.Decode.{transitionOf, tripleForm}
 use Rattle.sheet.specs.declared.Header.{Header}
 use Rattle.engine.specs.Plan.{planSize, absent, cellOf, keyOf}
-use Rattle.engine.specs.Prepared.{textPlace, actionPlace, withTransition, pairWords, withPairs, withTriple, blank}
+use Rattle.engine.specs.Prepared.{textPlace, actionPlace, withTransition, pairWords, withPairs, withTriple, headWords, empty}
 use Rattle.engine.proofs.Linking.{turnOf}
 use Rattle.engine.proofs.Kept.{entry-length, entry-head, entry-word, entry-other, behind-front}
 use Rattle.engine.proofs.Spacing.{Chained}
@@ -29,19 +29,22 @@ key-below s at = omega arith
 pub cell-below : (s : List ℕ) (at : ℕ) → cellAt s at < 256
 cell-below s at = omega arith
 
--- the header
-module _ (h : Header) (paired : ℕ) where
-  pub blank-length : length (blank h paired) ≡ 2344
-  unfolding blank
-  blank-length = length-sets (replicate planSize absent) 0 (h .units ∷ h .programs ∷ h .monitors ∷ h .bad ∷ paired ∷ []) ∙ length-replicate planSize absent
+-- a plan with nothing but the words in front
+abbrev pub blank : Header → ℕ → ℕ → List ℕ
+blank h paired last = sets empty 0 (headWords h paired last)
 
-  pub blank-absent : (k : ℕ) → 5 ≤ k → k < 2344 → getD (blank h paired) k 0 ≡ absent
-  unfolding blank
-  blank-absent k a b = behind-front planSize absent (h .units ∷ h .programs ∷ h .monitors ∷ h .bad ∷ paired ∷ []) k a b
+module _ (h : Header) (paired last : ℕ) where
+  pub blank-length : length (blank h paired last) ≡ 2344
+  unfolding empty
+  blank-length = length-sets (replicate planSize absent) 0 (headWords h paired last) ∙ length-replicate planSize absent
 
-  pub blank-header : (getD (blank h paired) 0 0 ≡ h .units) × (getD (blank h paired) 1 0 ≡ h .programs) × (getD (blank h paired) 2 0 ≡ h .monitors) × (getD (blank h paired) 3 0 ≡ h .bad) × (getD (blank h paired) 4 0 ≡ paired)
-  unfolding blank
-  blank-header = (refl, refl, refl, refl, refl)
+  pub blank-absent : (k : ℕ) → 6 ≤ k → k < 2344 → getD (blank h paired last) k 0 ≡ absent
+  unfolding empty
+  blank-absent k a b = behind-front planSize absent (headWords h paired last) k a b
+
+  pub blank-header : (getD (blank h paired last) 0 0 ≡ h .units) × (getD (blank h paired last) 1 0 ≡ h .programs) × (getD (blank h paired last) 2 0 ≡ h .monitors) × (getD (blank h paired last) 3 0 ≡ h .bad) × (getD (blank h paired last) 4 0 ≡ paired) × (getD (blank h paired last) 5 0 ≡ last)
+  unfolding empty
+  blank-header = (refl, refl, refl, refl, refl, refl)
 
 -- a transition
 abbrev pub transitionWords : List ℕ → List ℕ → List ℕ → ℕ → ℕ → List ℕ → List ℕ

@@ -24,13 +24,14 @@ use Rattle.sheet.proofs.Loops.{byte-past}
 use Rattle.step.specs.Lists.{numbers}
 use Rattle.step.specs.Walk.{baseForm}
 use Rattle.step.proofs.Keeping.{image-at}
+use Rattle.engine.specs.Plan as Plan
 use Rattle.engine.specs.Plan.{absent, unitsIn, programsIn, monitorsIn, badIn, pairedIn, cellOf, askedOf, numberOf, behindOf, postOf}
 use Rattle.engine.specs.Walk.{chain}
-use Rattle.engine.specs.Prepared.{textPlace, linked, pairWords, withTriple, postWords, blank, transitionPlaces, sheetPlan, networkPlan}
+use Rattle.engine.specs.Prepared.{textPlace, linked, pairWords, withTriple, postWords, transitionPlaces, sheetInto, networkInto, sheetPlan, networkPlan}
 use Rattle.engine.proofs.Linking.{turnOf, turns}
 use Rattle.engine.proofs.Kept.{sets-other, sets-own, linked-length, linked-other, linked-at}
 use Rattle.engine.proofs.Spacing.{nextOf, Spaced, chain-none, chain-numbers, linked-head, linked-spaced}
-use Rattle.engine.proofs.Parts.{cellAt, cell-below, tripleWords, blank-length, blank-absent, blank-header, turn-length, turn-alone, turn-beside, turn-pairs-head, turn-pairs-word, triple-length, triple-word, triple-other, triples-chained}
+use Rattle.engine.proofs.Parts.{cellAt, cell-below, tripleWords, blank, blank-length, blank-absent, blank-header, turn-length, turn-alone, turn-beside, turn-pairs-head, turn-pairs-word, triple-length, triple-word, triple-other, triples-chained}
 use Rattle.engine.proofs.Queued.{candidates, pair-words, Candidates, run-from}
 use Rattle.engine.proofs.Turned.{numbers-starts, turned, turned-length, turned-front, Moves, moves-there}
 
@@ -81,15 +82,16 @@ pub record Heads (C : Common) (kind : ℕ) (p : List ℕ) : Type 0 where
   pub bad : badIn p ≡ C .bad
   pub paired : pairedIn p ≡ kind
 
-heads-there : (s : List ℕ) (kind : ℕ) (p : List ℕ) → ((k : ℕ) → k < 8 → getD p k 0 ≡ getD (blank (headerOf s) kind) k 0) → Heads (commonOf s) kind p
+heads-there : (s : List ℕ) (kind last : ℕ) (p : List ℕ) → ((k : ℕ) → k < 8 → getD p k 0 ≡ getD (blank (headerOf s) kind last) k 0) → Heads (commonOf s) kind p
 unfolding commonOf
-heads-there s kind p same =
-    let h = blank-header (headerOf s) kind in
+heads-there s kind last p same =
+    let h = blank-header (headerOf s) kind last in
     record { units = same 0 (omega arith) ∙ h .0; programs = same 1 (omega arith) ∙ h .1; monitors = same 2 (omega arith) ∙ h .2; bad = same 3 (omega arith) ∙ h .3; paired = same 4 (omega arith) ∙ h .4 }
 
 -- The plan of a sheet: its header, its transitions, and its triples in a chain of each cell and by number.
-pub record SheetPlanned (s conditions actions : List ℕ) (ts : List Transition) (us : List Triple) (p : List ℕ) : Type 0 where
+pub record SheetPlanned (s conditions actions : List ℕ) (last : ℕ) (ts : List Transition) (us : List Triple) (p : List ℕ) : Type 0 where
   pub heads : Heads (commonOf s) 0 p
+  pub begins : Plan.lastIn p ≡ last
   pub moves : Moves s conditions actions ts p
   pub celled : (c : ℕ) → c < 256 → chain (behindOf p) 384 384 (getD p (936 + c) 0) ≡ numbers (λ u. eqb (cellOf (u .state) (u .unit)) c) 0 us
   pub asked : (i : ℕ) (d : Triple) → i < length us → askedOf p i ≡ textPlace s conditions (getD us i d .precondition)
@@ -128,10 +130,10 @@ module _ (s conditions : List ℕ) (m last : ℕ) (some : m ≤ 32) (old : List 
         ∙ triple-word s conditions i (getD places i 0) (linked f (suc i) (drop (suc i) places) old) k j e b (omega arith) (linked-length f (triple-length s conditions) (drop (suc i) places) (suc i) old ∙ long)
 
 module _ (s conditions actions : List ℕ) (n a m last : ℕ) (few : n ≤ 96) (some : m ≤ 32) where
-  sheet-there : SheetPlanned s conditions actions (table transitionForm n s a) (table tripleForm m s last) (sets (tripled s conditions m last (turned s conditions actions false n a (blank (headerOf s) 0))) 520 (postWords s conditions 4 m last))
+  sheet-there : SheetPlanned s conditions actions last (table transitionForm n s a) (table tripleForm m s last) (sets (tripled s conditions m last (turned s conditions actions false n a (blank (headerOf s) 0 last))) 520 (postWords s conditions 4 m last))
   sheet-there =
-      let first = blank (headerOf s) 0 in
-      let long = blank-length (headerOf s) 0 in
+      let first = blank (headerOf s) 0 last in
+      let long = blank-length (headerOf s) 0 last in
       let second = turned s conditions actions false n a first in
       let third = tripled s conditions m last second in
       let p = sets third 520 (postWords s conditions 4 m last) in
@@ -141,11 +143,13 @@ module _ (s conditions actions : List ℕ) (n a m last : ℕ) (few : n ≤ 96) (
       let high : (k : ℕ) → 936 ≤ k → getD p k 0 ≡ getD third k 0 = λ k b. other k (λ j y e. omega arith) in
       let empty : (c : ℕ) → c < 256 → getD second (936 + c) 0 ≡ absent
       = λ c b. linked-other (turnOf s conditions actions false) (936 + c) 96 (λ i at q y. turn-alone s conditions actions i at q (936 + c) (omega arith) y) (starts (baseForm false) n s a) 0 first (omega (arith, length-starts (baseForm false) n s a))
-      ∙ blank-absent (headerOf s) 0 (936 + c) (omega arith) (omega arith) in
+      ∙ blank-absent (headerOf s) 0 last (936 + c) (omega arith) (omega arith) in
       let many = length-records tripleForm m (drop last s) in
+      let front : (k : ℕ) → k < 8 → getD p k 0 ≡ getD first k 0 = λ k b. low k (omega arith) (λ j y e. omega arith) ∙ turned-front s conditions actions false n a few first long k b in
       record {
-        heads = heads-there s 0 p (λ k b. low k (omega arith) (λ j y e. omega arith) ∙ turned-front s conditions actions false n a few first long k b);
-        moves = moves-there s conditions actions false n a few first long (λ k b. blank-absent (headerOf s) 0 (8 + k) (omega arith) (omega arith)) p (λ k b. low k (omega arith) (λ j y e. omega arith)) (λ k b c. low k c (λ j y e. omega arith));
+        heads = heads-there s 0 last p front;
+        begins = front 5 (omega arith) ∙ blank-header (headerOf s) 0 last .5;
+        moves = moves-there s conditions actions false n a few first long (λ k b. blank-absent (headerOf s) 0 last (8 + k) (omega arith) (omega arith)) p (λ k b. low k (omega arith) (λ j y e. omega arith)) (λ k b c. low k c (λ j y e. omega arith));
         celled = celled-there s conditions m last some second second-long p high empty;
         asked = λ i d b. triple-there s conditions m last some second second-long p high i (omega arith) (1192 + 3 * i) 0 (omega arith) (omega arith) ∙ ap (λ (u : Triple). textPlace s conditions (u .precondition)) (table-at tripleForm m s last i d (omega arith));
         number = λ i b. triple-there s conditions m last some second second-long p high i (omega arith) (1193 + 3 * i) 1 (omega arith) (omega arith);
@@ -153,21 +157,22 @@ module _ (s conditions actions : List ℕ) (n a m last : ℕ) (few : n ≤ 96) (
       }
 
 -- what an accepted sheet's plan holds
-pub sheet-planned : {s : List ℕ} → Accepted sheetLayout s → SheetPlanned s (placesOf sheetLayout s .conditions) (placesOf sheetLayout s .actions) (transitionsOf sheetLayout s) (lastOf sheetLayout s) (sheetPlan s)
-unfolding sheetPlan
+pub sheet-planned : {s : List ℕ} → Accepted sheetLayout s → SheetPlanned s (placesOf sheetLayout s .conditions) (placesOf sheetLayout s .actions) (placesOf sheetLayout s .last) (transitionsOf sheetLayout s) (lastOf sheetLayout s) (sheetPlan s)
+unfolding sheetInto
 sheet-planned {s} a =
     let x = placesOf sheetLayout s in
     let few : transitionsIn s ≤ 64 = transitions-most a in
     let en : transitionsIn s ≡ min (transitionsIn s) 96 = sym (min-eq-left (omega arith)) in
     let em : lastIn s ≡ min (lastIn s) 32 = sym (min-eq-left (last-most a)) in
-    let same : sets (tripled s (x .conditions) (lastIn s) (x .last) (turned s (x .conditions) (x .actions) false (transitionsIn s) (x .transitions) (blank (headerOf s) 0))) 520 (postWords s (x .conditions) 4 (lastIn s) (x .last)) ≡ sheetPlan s
-    = (λ j. sets (tripled s (x .conditions) (em j) (x .last) (turned s (x .conditions) (x .actions) false (en j) (x .transitions) (blank (headerOf s) 0))) 520 (postWords s (x .conditions) 4 (em j) (x .last)))
-    ∙ ap (λ (q : List ℕ). sets (tripled s (x .conditions) (min (lastIn s) 32) (x .last) q) 520 (postWords s (x .conditions) 4 (min (lastIn s) 32) (x .last))) (sym (turns s (x .conditions) (x .actions) false (transitionPlaces false (headerOf s) s (x .transitions)) (blank (headerOf s) 0))) in
-    subst (SheetPlanned s (x .conditions) (x .actions) (transitionsOf sheetLayout s) (lastOf sheetLayout s)) same (sheet-there s (x .conditions) (x .actions) (transitionsIn s) (x .transitions) (lastIn s) (x .last) (omega arith) (last-most a))
+    let same : sets (tripled s (x .conditions) (lastIn s) (x .last) (turned s (x .conditions) (x .actions) false (transitionsIn s) (x .transitions) (blank (headerOf s) 0 (x .last)))) 520 (postWords s (x .conditions) 4 (lastIn s) (x .last)) ≡ sheetPlan s
+    = (λ j. sets (tripled s (x .conditions) (em j) (x .last) (turned s (x .conditions) (x .actions) false (en j) (x .transitions) (blank (headerOf s) 0 (x .last)))) 520 (postWords s (x .conditions) 4 (em j) (x .last)))
+    ∙ ap (λ (q : List ℕ). sets (tripled s (x .conditions) (min (lastIn s) 32) (x .last) q) 520 (postWords s (x .conditions) 4 (min (lastIn s) 32) (x .last))) (sym (turns s (x .conditions) (x .actions) false (transitionPlaces false (headerOf s) s (x .transitions)) (blank (headerOf s) 0 (x .last)))) in
+    subst (SheetPlanned s (x .conditions) (x .actions) (x .last) (transitionsOf sheetLayout s) (lastOf sheetLayout s)) same (sheet-there s (x .conditions) (x .actions) (transitionsIn s) (x .transitions) (lastIn s) (x .last) (omega arith) (last-most a))
 
 -- The plan of a network: its header, its transitions, the pairs of each of them in a chain, none for no transition, and its templates.
-pub record NetworkPlanned (s conditions actions : List ℕ) (ts : List Paired) (us : List Template) (p : List ℕ) : Type 0 where
+pub record NetworkPlanned (s conditions actions : List ℕ) (last : ℕ) (ts : List Paired) (us : List Template) (p : List ℕ) : Type 0 where
   pub heads : Heads (commonOf s) 1 p
+  pub begins : Plan.lastIn p ≡ last
   pub moves : Moves s conditions actions (map (λ t. t .base) ts) p
   pub asked : (t : ℕ) (d : Paired) → t < length ts → map (λ j. askedOf p j) (chain (behindOf p) 384 384 (getD p (936 + t) 0)) ≡ map (λ q. textPlace s conditions (q .condition)) (getD ts t d .pairs)
   pub number : (t : ℕ) (d : Paired) → t < length ts → map (numberOf p) (chain (behindOf p) 384 384 (getD p (936 + t) 0)) ≡ map (λ q. q .template) (getD ts t d .pairs)
@@ -206,10 +211,10 @@ module _ (s conditions actions : List ℕ) (n a : ℕ) (few : n ≤ 96) (old : L
       (found .0 ∙ ap (λ (v : Paired). map (λ q. textPlace s conditions (q .condition)) (v .pairs)) e, found .1 ∙ ap (λ (v : Paired). map (λ q. q .template) (v .pairs)) e)
 
 module _ (s conditions actions : List ℕ) (n a m last : ℕ) (few : n ≤ 96) (some : m ≤ 32) (four : (t : ℕ) (d : Paired) → t < length (table pairedForm n s a) → length (getD (table pairedForm n s a) t d .pairs) ≤ 4) where
-  network-there : NetworkPlanned s conditions actions (table pairedForm n s a) (table templateForm m s last) (sets (turned s conditions actions true n a (blank (headerOf s) 1)) 520 (postWords s conditions 2 m last))
+  network-there : NetworkPlanned s conditions actions last (table pairedForm n s a) (table templateForm m s last) (sets (turned s conditions actions true n a (blank (headerOf s) 1 last)) 520 (postWords s conditions 2 m last))
   network-there =
-      let first = blank (headerOf s) 1 in
-      let long = blank-length (headerOf s) 1 in
+      let first = blank (headerOf s) 1 last in
+      let long = blank-length (headerOf s) 1 last in
       let second = turned s conditions actions true n a first in
       let p = sets second 520 (postWords s conditions 2 m last) in
       let other : (k : ℕ) → ((j : ℕ) → j < 32 → k ≡ 520 + j → ⊥) → getD p k 0 ≡ getD second k 0 = post-other s conditions 2 m last some second in
@@ -217,12 +222,14 @@ module _ (s conditions actions : List ℕ) (n a m last : ℕ) (few : n ≤ 96) (
       let empty : getD p (936 + 96) 0 ≡ absent
       = high (936 + 96) (omega arith)
       ∙ linked-other (turnOf s conditions actions true) (936 + 96) 96 (λ i at q y. turn-beside s conditions actions i at q (936 + 96) (omega arith) y (λ e. omega arith) (λ j z e. omega arith)) (starts (baseForm true) n s a) 0 first (omega (arith, length-starts (baseForm true) n s a))
-      ∙ blank-absent (headerOf s) 1 (936 + 96) (omega arith) (omega arith) in
+      ∙ blank-absent (headerOf s) 1 last (936 + 96) (omega arith) (omega arith) in
       let many = length-records pairedForm n (drop a s) in
       let bases : table (baseForm true) n s a ≡ map (λ t. t .base) (table pairedForm n s a) = same-records (baseForm true) pairedForm (λ x. refl) (λ t. t .base) (λ x. refl) n (drop a s) in
+      let front : (k : ℕ) → k < 8 → getD p k 0 ≡ getD first k 0 = λ k b. other k (λ j y e. omega arith) ∙ turned-front s conditions actions true n a few first long k b in
       record {
-        heads = heads-there s 1 p (λ k b. other k (λ j y e. omega arith) ∙ turned-front s conditions actions true n a few first long k b);
-        moves = subst (λ (ts : List Transition). Moves s conditions actions ts p) bases (moves-there s conditions actions true n a few first long (λ k b. blank-absent (headerOf s) 1 (8 + k) (omega arith) (omega arith)) p (λ k b. other k (λ j y e. omega arith)) (λ k b c. other k (λ j y e. omega arith)));
+        heads = heads-there s 1 last p front;
+        begins = front 5 (omega arith) ∙ blank-header (headerOf s) 1 last .5;
+        moves = subst (λ (ts : List Transition). Moves s conditions actions ts p) bases (moves-there s conditions actions true n a few first long (λ k b. blank-absent (headerOf s) 1 last (8 + k) (omega arith) (omega arith)) p (λ k b. other k (λ j y e. omega arith)) (λ k b c. other k (λ j y e. omega arith)));
         asked = λ t d b. pairs-there s conditions actions n a few first long p high t (omega arith) d (four t d b) .0;
         number = λ t d b. pairs-there s conditions actions n a few first long p high t (omega arith) d (four t d b) .1;
         none = chain-none (behindOf p) 384 384 (getD p (936 + 96) 0) (omega (arith, empty));
@@ -230,14 +237,14 @@ module _ (s conditions actions : List ℕ) (n a m last : ℕ) (few : n ≤ 96) (
       }
 
 -- what an accepted network's plan holds
-pub network-planned : {s : List ℕ} → Accepted networkLayout s → NetworkPlanned s (placesOf networkLayout s .conditions) (placesOf networkLayout s .actions) (transitionsOf networkLayout s) (lastOf networkLayout s) (networkPlan s)
-unfolding networkPlan
+pub network-planned : {s : List ℕ} → Accepted networkLayout s → NetworkPlanned s (placesOf networkLayout s .conditions) (placesOf networkLayout s .actions) (placesOf networkLayout s .last) (transitionsOf networkLayout s) (lastOf networkLayout s) (networkPlan s)
+unfolding networkInto
 network-planned {s} a =
     let x = placesOf networkLayout s in
     let few : transitionsIn s ≤ 96 = transitions-most a in
     let en : transitionsIn s ≡ min (transitionsIn s) 96 = sym (min-eq-left few) in
     let em : lastIn s ≡ min (lastIn s) 32 = sym (min-eq-left (last-most a)) in
-    let same : sets (turned s (x .conditions) (x .actions) true (transitionsIn s) (x .transitions) (blank (headerOf s) 1)) 520 (postWords s (x .conditions) 2 (lastIn s) (x .last)) ≡ networkPlan s
-    = (λ j. sets (turned s (x .conditions) (x .actions) true (en j) (x .transitions) (blank (headerOf s) 1)) 520 (postWords s (x .conditions) 2 (em j) (x .last)))
-    ∙ ap (λ (q : List ℕ). sets q 520 (postWords s (x .conditions) 2 (min (lastIn s) 32) (x .last))) (sym (turns s (x .conditions) (x .actions) true (transitionPlaces true (headerOf s) s (x .transitions)) (blank (headerOf s) 1))) in
-    subst (NetworkPlanned s (x .conditions) (x .actions) (transitionsOf networkLayout s) (lastOf networkLayout s)) same (network-there s (x .conditions) (x .actions) (transitionsIn s) (x .transitions) (lastIn s) (x .last) few (last-most a) (λ t d h. network-pairs a t d h))
+    let same : sets (turned s (x .conditions) (x .actions) true (transitionsIn s) (x .transitions) (blank (headerOf s) 1 (x .last))) 520 (postWords s (x .conditions) 2 (lastIn s) (x .last)) ≡ networkPlan s
+    = (λ j. sets (turned s (x .conditions) (x .actions) true (en j) (x .transitions) (blank (headerOf s) 1 (x .last))) 520 (postWords s (x .conditions) 2 (em j) (x .last)))
+    ∙ ap (λ (q : List ℕ). sets q 520 (postWords s (x .conditions) 2 (min (lastIn s) 32) (x .last))) (sym (turns s (x .conditions) (x .actions) true (transitionPlaces true (headerOf s) s (x .transitions)) (blank (headerOf s) 1 (x .last)))) in
+    subst (NetworkPlanned s (x .conditions) (x .actions) (x .last) (transitionsOf networkLayout s) (lastOf networkLayout s)) same (network-there s (x .conditions) (x .actions) (transitionsIn s) (x .transitions) (lastIn s) (x .last) few (last-most a) (λ t d h. network-pairs a t d h))

@@ -47,8 +47,8 @@ module _ (s index : List ℕ) (i at : ℕ) (e : at ≡ startOf index i) where
     unfolding textPlace
     text-something h = something s (at + k) b f h ∙ ap (λ (m : ℕ). cond (eqb (byte s m) 0) 0 m) there
 
-pub head-words : (p : List ℕ) (h : Header) (paired units programs monitors bad : ℕ) → units ≡ h .units → programs ≡ h .programs → monitors ≡ h .monitors → bad ≡ h .bad → sets p 0 (units ∷ programs ∷ monitors ∷ bad ∷ paired ∷ []) ≡ sets p 0 (headWords h paired)
-head-words p h paired units programs monitors bad e f g k = λ i. sets p 0 (e i ∷ f i ∷ g i ∷ k i ∷ paired ∷ [])
+pub head-words : (p : List ℕ) (h : Header) (paired last units programs monitors bad : ℕ) → units ≡ h .units → programs ≡ h .programs → monitors ≡ h .monitors → bad ≡ h .bad → sets p 0 (units ∷ programs ∷ monitors ∷ bad ∷ paired ∷ last ∷ []) ≡ sets p 0 (headWords h paired last)
+head-words p h paired last units programs monitors bad e f g k = λ i. sets p 0 (e i ∷ f i ∷ g i ∷ k i ∷ paired ∷ last ∷ [])
 
 -- three and four stores in a row
 module _ (p : List ℕ) (k x y z : ℕ) where

@@ -28,6 +28,10 @@ badIn p = getD p 3 0
 abbrev pub pairedIn : List ℕ → ℕ
 pairedIn p = getD p 4 0
 
+-- where the triples or templates begin
+abbrev pub lastIn : List ℕ → ℕ
+lastIn p = getD p 5 0
+
 -- a state and a unit, and with them a kind
 abbrev pub cellOf : ℕ → ℕ → ℕ
 cellOf main unit = (16 * main + unit) % 256

@@ -65,28 +65,36 @@ unfoldable pub postWords : List ℕ → List ℕ → ℕ → ℕ → ℕ → Lis
 postWords s conditions size zero at = []
 postWords s conditions size (suc n) at = textPlace s conditions (byte s (at + (size - 1))) ∷ postWords s conditions size n (at + size)
 
--- the numbers of the header, and a plan with nothing else
-abbrev pub headWords : Header → ℕ → List ℕ
-headWords h paired = h .units ∷ h .programs ∷ h .monitors ∷ h .bad ∷ paired ∷ []
-
-unfoldable pub blank : Header → ℕ → List ℕ
-blank h paired = sets (replicate planSize absent) 0 (headWords h paired)
+-- the numbers of the header, whether transitions have pairs, and where the triples or templates begin
+abbrev pub headWords : Header → ℕ → ℕ → List ℕ
+headWords h paired last = h .units ∷ h .programs ∷ h .monitors ∷ h .bad ∷ paired ∷ last ∷ []
 
 -- where the first transitions of a table stand, at most 96
 abbrev pub transitionPlaces : Bool → Header → List ℕ → ℕ → List ℕ
 transitionPlaces paired h s at = starts (baseForm paired) (min (h .transitions) 96) s at
 
-unfoldable pub sheetPlan : List ℕ → List ℕ
-sheetPlan s =
+-- all of a sheet put into a list of words, and all of a network
+unfoldable pub sheetInto : List ℕ → List ℕ → List ℕ
+sheetInto s q =
     let h = headerOf s in
     let x = placesOf sheetLayout s in
     let n = min (h .last) 32 in
-    let p = withTransitions false s (x .conditions) (x .actions) (transitionPlaces false h s (x .transitions)) (blank h 0) in
+    let p = withTransitions false s (x .conditions) (x .actions) (transitionPlaces false h s (x .transitions)) (sets q 0 (headWords h 0 (x .last))) in
     sets (linked (withTriple s (x .conditions)) 0 (starts tripleForm n s (x .last)) p) 520 (postWords s (x .conditions) 4 n (x .last))
 
-unfoldable pub networkPlan : List ℕ → List ℕ
-networkPlan s =
+unfoldable pub networkInto : List ℕ → List ℕ → List ℕ
+networkInto s q =
     let h = headerOf s in
     let x = placesOf networkLayout s in
-    let p = withTransitions true s (x .conditions) (x .actions) (transitionPlaces true h s (x .transitions)) (blank h 1) in
+    let p = withTransitions true s (x .conditions) (x .actions) (transitionPlaces true h s (x .transitions)) (sets q 0 (headWords h 1 (x .last))) in
     sets p 520 (postWords s (x .conditions) 2 (min (h .last) 32) (x .last))
+
+-- a plan is made where nothing is there
+unfoldable pub empty : List ℕ
+empty = replicate planSize absent
+
+abbrev pub sheetPlan : List ℕ → List ℕ
+sheetPlan s = sheetInto s empty
+
+abbrev pub networkPlan : List ℕ → List ℕ
+networkPlan s = networkInto s empty

@@ -83,7 +83,7 @@ fn given_at(log: &[u8], at: usize, programs: u8) -> Given
         kind: log[at],
         unit: log[at + 1],
         number: (wide(log[at + 2]) * 256 + wide(log[at + 3])) as u16,
-        count: programs,
+        count: wide(programs),
     }
 }
 

@@ -4,8 +4,11 @@
 ghost use mathlib.Core.Path.{_≡_};
 ghost use Prim.Native.Nat.{_<_, _≤_};
 ghost use Rattle.sheet.specs.Bytes.{byte, half};
+ghost use Rattle.sheet.specs.Reading.{reading, sheetLayout, networkLayout};
+ghost use Rattle.sheet.specs.Answer.{answer};
 ghost use Rattle.sheet.specs.Log.{logReading, eventsOf};
-ghost use Rattle.step.specs.Answers.{unlessRefused, ranAnswer};
+ghost use Rattle.step.specs.Answers.{unlessTaken, unlessRefused, ranAnswer};
+ghost use Rattle.engine.specs.Prepared.{sheetInto, networkInto};
 ghost use Rattle.engine.specs.Runs.{followIn, endsBy, sheetRun, networkRun};
 ghost use Rattle.engine.specs.Walk.{words, offerIn};
 use sheet::LogReading;
@@ -18,8 +21,11 @@ mod follow;
 mod plan;
 mod row;
 
-// The words of a plan.
+// The words of a plan, and the number of no transition and of no candidate: what a plan has everywhere
+// before it is made.
 pub const PLAN: usize = 2344;
+
+pub const ABSENT: u32 = 1000;
 
 // What a state has beside its calls and its variables.
 pub struct Running {
@@ -34,7 +40,7 @@ pub struct Given {
     pub kind: u8,
     pub unit: u8,
     pub number: u16,
-    pub count: u8,
+    pub count: usize,
 }
 
 // What an event comes to: 0 where it is taken, or the refusal's number, and what is beside the calls
@@ -44,30 +50,53 @@ pub struct Advanced {
     pub run: Running,
 }
 
+// Reads a sheet and puts it into a plan; what is refused leaves the plan as it was.
+pub fn prepare_sheet(s: &[u8], plan: &mut [u32; PLAN]) -> Reading
+    ensures { λ r. ⌜ r ≡ answer (reading sheetLayout (now (s .entry))) ⌝ }
+    ensures { λ _. ⌜ now (plan .exit) ≡ unlessTaken (reading sheetLayout (now (s .entry))) (now (plan .entry)) (sheetInto (now (s .entry)) (now (plan .entry))) ⌝ }
+{
+    match sheet::read_sheet(s) {
+        Reading::Accepted => {
+            plan::of_sheet(s, plan);
+            Reading::Accepted
+        }
+        Reading::Refused(n) => Reading::Refused(n),
+    }
+}
+
+// The same of a network.
+pub fn prepare_network(s: &[u8], plan: &mut [u32; PLAN]) -> Reading
+    ensures { λ r. ⌜ r ≡ answer (reading networkLayout (now (s .entry))) ⌝ }
+    ensures { λ _. ⌜ now (plan .exit) ≡ unlessTaken (reading networkLayout (now (s .entry))) (now (plan .entry)) (networkInto (now (s .entry)) (now (plan .entry))) ⌝ }
+{
+    match sheet::read_network(s) {
+        Reading::Accepted => {
+            plan::of_network(s, plan);
+            Reading::Accepted
+        }
+        Reading::Refused(n) => Reading::Refused(n),
+    }
+}
+
 // Runs a log from the fresh state of a sheet.
 pub fn run_sheet(s: &[u8], log: &[u8]) -> RunAnswer
     ensures { λ r. ⌜ r ≡ sheetRun (now (s .entry)) (now (log .entry)) ⌝ }
 {
-    match sheet::read_sheet(s) {
-        Reading::Accepted => {
-            let mut plan = [plan::ABSENT; PLAN];
-            plan::of_sheet(s, &mut plan);
-            run_planned(s, &plan, log)
-        }
+    let mut plan = [ABSENT; PLAN];
+    match prepare_sheet(s, &mut plan) {
+        Reading::Accepted => run_planned(s, &plan, log),
         Reading::Refused(n) => RunAnswer::Refused(n),
     }
 }
 
-// Runs a log from the fresh state of a network. Its first two bytes say how long it is: places in it
-// are below 65,536.
+// Runs a log from the fresh state of a network.
 pub fn run_network(s: &[u8], log: &[u8]) -> RunAnswer
     ensures { λ r. ⌜ r ≡ networkRun (now (s .entry)) (now (log .entry)) ⌝ }
 {
-    match sheet::read_network(s) {
+    let mut plan = [ABSENT; PLAN];
+    match prepare_network(s, &mut plan) {
         Reading::Accepted => {
             let size = length_said(s);
-            let mut plan = [plan::ABSENT; PLAN];
-            plan::of_network(s, &mut plan);
             run_planned(s, &plan, log)
         }
         Reading::Refused(n) => RunAnswer::Refused(n),
@@ -94,7 +123,7 @@ fn length_said(s: &[u8]) -> usize
 }
 
 // Offers one event: 9 to 15, or taken. A refused event alters nothing.
-pub(crate) fn advance(
+pub fn advance(
     s: &[u8],
     plan: &[u32; PLAN],
     run: Running,

@@ -5,33 +5,31 @@ ghost use mathlib.Core.Path.{_≡_};
 ghost use mathlib.Core.Bool.{true, cond};
 ghost use Prim.Native.Nat.{_-_, _<_, _≤_, suc, min};
 ghost use lib.Dec.{leb};
-ghost use lib.ListN.{length, take, drop, replicate};
+ghost use lib.ListN.{length, take, drop};
 ghost use lib.Seq.{sets};
 ghost use Rattle.sheet.specs.Table.{every, fit, starts};
 ghost use Rattle.sheet.specs.Decode.{wide, lead, tripleForm};
 ghost use Rattle.sheet.specs.Reading.{reading, sheetLayout, networkLayout};
 ghost use Rattle.step.specs.Walk.{baseForm};
-ghost use Rattle.engine.specs.Plan.{planSize, absent, keyOf};
-ghost use Rattle.engine.specs.Prepared.{startOf, textPlace, actionPlace, linked, withTransition, withPairs, withTransitions, withTriple, postWords, headWords, sheetPlan, networkPlan};
+ghost use Rattle.engine.specs.Plan.{absent, keyOf};
+ghost use Rattle.engine.specs.Prepared.{startOf, textPlace, actionPlace, linked, withTransition, withPairs, withTransitions, withTriple, postWords, headWords, sheetInto, networkInto};
+use crate::ABSENT;
 use crate::PLAN;
 use crate::event::cell_of;
 use crate::wide;
 use crate::word;
 use sheet::Header;
 
-// The number of no transition and of no candidate: what a plan has everywhere before it is made.
-pub(crate) const ABSENT: u32 = 1000;
-
-// The plan of a sheet, made where there is none yet.
+// Puts an accepted sheet into a plan.
 pub(crate) fn of_sheet(s: &[u8], plan: &mut [u32; PLAN])
-    requires { ⌜ (reading sheetLayout (now s) ≡ 0) × (now plan ≡ replicate planSize absent) ⌝ }
-    ensures { λ _. ⌜ now (plan .exit) ≡ sheetPlan (now (s .entry)) ⌝ }
+    requires { ⌜ reading sheetLayout (now s) ≡ 0 ⌝ }
+    ensures { λ _. ⌜ now (plan .exit) ≡ sheetInto (now (s .entry)) (now (plan .entry)) ⌝ }
 {
     let h = sheet::header_of(s);
     let x = sheet::sheet_places(s);
     let conditions = x.conditions;
     let actions = x.actions;
-    heads(h, 0, plan);
+    heads(h, 0, x.last, plan);
     let n = at_most(h.transitions, 96);
     let places = places(s, x.transitions, n, false);
     transitions(s, &conditions, &actions, &places, n, false, plan);
@@ -40,31 +38,32 @@ pub(crate) fn of_sheet(s: &[u8], plan: &mut [u32; PLAN])
     posts(s, &conditions, x.last, m, 4, plan);
 }
 
-// The plan of a network, made where there is none yet.
+// Puts an accepted network into a plan.
 pub(crate) fn of_network(s: &[u8], plan: &mut [u32; PLAN])
-    requires { ⌜ (reading networkLayout (now s) ≡ 0) × (now plan ≡ replicate planSize absent) ⌝ }
-    ensures { λ _. ⌜ now (plan .exit) ≡ networkPlan (now (s .entry)) ⌝ }
+    requires { ⌜ reading networkLayout (now s) ≡ 0 ⌝ }
+    ensures { λ _. ⌜ now (plan .exit) ≡ networkInto (now (s .entry)) (now (plan .entry)) ⌝ }
 {
     let h = sheet::header_of(s);
     let x = sheet::network_places(s);
     let conditions = x.conditions;
     let actions = x.actions;
-    heads(h, 1, plan);
+    heads(h, 1, x.last, plan);
     let n = at_most(h.transitions, 96);
     let places = places(s, x.transitions, n, true);
     transitions(s, &conditions, &actions, &places, n, true, plan);
     posts(s, &conditions, x.last, at_most(h.last, 32), 2, plan);
 }
 
-// The numbers of the header.
-fn heads(h: Header, paired: u32, plan: &mut [u32; PLAN])
-    ensures { λ _. ⌜ now (plan .exit) ≡ sets (now (plan .entry)) 0 (headWords h paired) ⌝ }
+// The numbers of the header, whether transitions have pairs, and where the triples or templates begin.
+fn heads(h: Header, paired: u32, last: u32, plan: &mut [u32; PLAN])
+    ensures { λ _. ⌜ now (plan .exit) ≡ sets (now (plan .entry)) 0 (headWords h paired last) ⌝ }
 {
     plan[0] = word(h.units);
     plan[1] = word(h.programs);
     plan[2] = word(h.monitors);
     plan[3] = crate::long(h.bad);
     plan[4] = paired;
+    plan[5] = last;
 }
 
 fn at_most(n: u8, most: usize) -> usize

@@ -44,7 +44,9 @@ pub(crate) fn refusal(
     if step::outcomes::is_judged(outcome) {
         return 10;
     }
-    if (given.kind <= 1) & ((word(given.unit) < plan[0]) & (word(given.count) == plan[1])) {} else {
+    if (given.kind <= 1)
+        & ((word(given.unit) < plan[0]) & (given.count == crate::place(plan[1])))
+    {} else {
         return 11;
     }
     if run.position == 4294967295 {

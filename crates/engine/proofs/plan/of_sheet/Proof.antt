@@ -1,23 +1,22 @@
 -- `plan::of_sheet` meets its contract. Assumes nothing.
 use native.Mathlib.Omega.{arith}
 use borrow.Author.Needs.{needs}
-use Rattle.engine.proofs.Preparing.{sheet-near, blank-made, sheet-made}
+use Rattle.engine.proofs.Preparing.{sheet-near, sheet-made}
 use Rattle.engine.proofs.plan.of_sheet.Statement.{statement}
 use Rattle.engine.proofs.plan.of_sheet.Tie as tie
 
 places-requires : tie.Need-places-requires
-places-requires c κs = (c .at-most .ensures .1, sheet-near _ (c .before .before .before .before .before .before .before .before .pre .0) _ (c .before .before .before .before .before .sheet-places .ensures) .0)
+places-requires c κs = (c .at-most .ensures .1, sheet-near _ (c .before .before .before .before .before .before .before .before .pre) _ (c .before .before .before .before .before .sheet-places .ensures) .0)
 
 triples-requires : tie.Need-triples-requires
-triples-requires c κs = (c .before .before .at-most2 .ensures .1, omega (arith, sheet-near _ (c .before .before .before .before .before .before .before .before .before .before .before .before .before .before .before .before .before .pre .0) _ (c .before .before .before .before .before .before .before .before .before .before .before .before .before .before .sheet-places .ensures) .1))
+triples-requires c κs = (c .before .before .at-most2 .ensures .1, omega (arith, sheet-near _ (c .before .before .before .before .before .before .before .before .before .before .before .before .before .before .before .before .before .pre) _ (c .before .before .before .before .before .before .before .before .before .before .before .before .before .before .sheet-places .ensures) .1))
 
 posts-requires : tie.Need-posts-requires
-posts-requires c κs = (c .before .before .before .before .before .at-most2 .ensures .1, omega (arith, sheet-near _ (c .before .before .before .before .before .before .before .before .before .before .before .before .before .before .before .before .before .before .before .before .pre .0) _ (c .before .before .before .before .before .before .before .before .before .before .before .before .before .before .before .before .before .sheet-places .ensures) .1), omega arith, omega arith)
+posts-requires c κs = (c .before .before .before .before .before .at-most2 .ensures .1, omega (arith, sheet-near _ (c .before .before .before .before .before .before .before .before .before .before .before .before .before .before .before .before .before .before .before .before .pre) _ (c .before .before .before .before .before .before .before .before .before .before .before .before .before .before .before .before .before .sheet-places .ensures) .1), omega arith, omega arith)
 
 returns : tie.Need-returns
 returns c =
-    let first = blank-made _ _ _ _ (c .before .before .before .before .before .before .before .before .before .before .before .before .before .before .before .before .before .before .before .before .before .pre .1) (c .before .before .before .before .before .before .before .before .before .before .before .before .before .before .heads .ensures) in
-    sheet-made _ _ _ _ (c .before .before .before .before .before .before .before .before .before .before .before .before .before .at-most .ensures .0) (c .before .before .before .before .before .before .before .before .before .before .before .before .before .at-most .ensures .1) (c .before .before .before .before .before .before .before .before .before .before .before .before .before .before .before .before .before .before .before .header-of .ensures) _ _ _ _ (c .before .before .before .before .before .before .at-most2 .ensures .0) (c .before .before .before .before .before .before .before .before .before .before .before .before .before .before .before .before .before .before .sheet-places .ensures) (c .before .before .before .before .before .before .before .before .before .before .before .before .places .ensures .0) first
+    sheet-made _ _ _ _ _ (c .before .before .before .before .before .before .before .before .before .before .before .before .before .at-most .ensures .0) (c .before .before .before .before .before .before .before .before .before .before .before .before .before .at-most .ensures .1) (c .before .before .before .before .before .before .before .before .before .before .before .before .before .before .before .before .before .before .before .header-of .ensures) _ _ _ _ (c .before .before .before .before .before .before .at-most2 .ensures .0) (c .before .before .before .before .before .before .before .before .before .before .before .before .before .before .before .before .before .before .sheet-places .ensures) (c .before .before .before .before .before .before .before .before .before .before .before .before .places .ensures .0) (c .before .before .before .before .before .before .before .before .before .before .before .before .before .before .heads .ensures)
     (c .before .before .before .before .before .before .before .transitions .ensures) _ (c .before .before .before .triples .ensures) _ (c .posts .ensures)
 
 pub of-sheet-spec : {M : Type 1} → statement M
