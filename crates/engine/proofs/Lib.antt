@@ -27,3 +27,4 @@ pub mod OnNetworks
 pub mod Followed
 pub mod Simulated
 pub mod Ran
+pub mod Packed

@@ -75,13 +75,17 @@ module _ (old : List ℕ) (place opened : ℕ) where
         }
 
 -- n elements of a list from a place on, and all of them
-abbrev reads : List ℕ → ℕ → ℕ → List ℕ
+abbrev pub reads : List ℕ → ℕ → ℕ → List ℕ
 reads l i zero = []
 reads l i (suc n) = getD l i 0 ∷ reads l (suc i) n
 
-reads-all : (n i : ℕ) (l : List ℕ) → length l ≡ i + n → reads l i n ≡ drop i l
+pub reads-all : (n i : ℕ) (l : List ℕ) → length l ≡ i + n → reads l i n ≡ drop i l
 reads-all zero i l h = sym (drop-of-length-le l {i = i} (omega arith))
 reads-all (suc n) i l h = ap (λ (r : List ℕ). getD l i 0 ∷ r) (reads-all n (suc i) l (omega arith)) ∙ sym (drop-cons l i 0 (omega arith))
+
+pub reads-some : (n i : ℕ) (l : List ℕ) → i + n ≤ length l → take n (drop i l) ≡ reads l i n
+reads-some zero i l h = refl
+reads-some (suc n) i l h = ap (take (suc n)) (drop-cons l i 0 (omega arith)) ∙ ap (λ (r : List ℕ). getD l i 0 ∷ r) (reads-some n (suc i) l (omega arith))
 
 -- a call's number, unit and values stored one by one
 pub put-there : (row : List ℕ) (at n m : ℕ) → n ≡ m → (u w : ℕ) → u ≡ w → (v : List ℕ) → length v ≡ 8

@@ -6,3 +6,4 @@ pub mod Prepared
 pub mod Walk
 pub mod Showing
 pub mod Runs
+pub mod Packed

@@ -211,7 +211,7 @@ fn lowest_failing<'a>(
 }
 
 // At most four.
-fn four(count: u32) -> usize
+pub(crate) fn four(count: u32) -> usize
     ensures { λ r. ⌜ (r ≡ min count 4) × (r ≤ 4) ⌝ }
 {
     if count < 4 { place(count) } else { 4 }

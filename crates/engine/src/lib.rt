@@ -18,6 +18,7 @@ use step::RunAnswer;
 
 mod event;
 mod follow;
+pub mod pack;
 mod plan;
 mod row;
 
