@@ -20,13 +20,14 @@ use Rattle.step.specs.Calls.{isEntry}
 use Rattle.step.specs.Runs.{offered}
 use Rattle.step.specs.Padding.{zeroCall, padCall}
 use Rattle.step.proofs.Keeping.{every-keep}
+use Rattle.step.proofs.Rooms as Rooms
 use Rattle.step.proofs.Rooms.{map-same}
 use Rattle.engine.specs.declared.pack.Arms.{Arms}
 use Rattle.engine.specs.Packed.{wordsOf, putAt, callIn, armsIn, callAt, armsAt}
 use Rattle.engine.specs.Machine.{Machine, Armed, State, ofNumber, entered, exited, refusal, offer}
 use Rattle.engine.specs.Walk.{entries, Words}
 use Rattle.engine.specs.Showing.{armedOf, shownBy, Carries}
-use Rattle.engine.proofs.Entries.{take-sets, drop-sets, drop-take, entries-same, entries-more}
+use Rattle.engine.proofs.Entries.{length-entries, take-sets, drop-sets, drop-take, entries-same, entries-more}
 use Rattle.engine.proofs.Rowing.{reads, reads-all, reads-some}
 
 -- a call's words stored one by one
@@ -205,3 +206,9 @@ module _ (M : Machine) (last : ℕ) (s p : List ℕ) (c : Carries M last s p) (�
       go zero true = every-append narrow (σ .calls) (new ∷ []) ∙ and-both h (and-both new-small refl)
       go zero false = every-keep (λ a. not (ofNumber (e .number) a)) narrow (σ .calls) h
       go (suc n) b = h
+
+-- One more of what is made of the words of each call.
+pub out-more : {A : Type 0} (f : List ℕ → A) (d : A) (row : List ℕ) (i : ℕ) (l : List A) (y : A) → l ≡ fit 16 d (map f (entries i row)) → y ≡ f (take 16 (drop (16 * i) row)) → set l i y ≡ fit 16 d (map f (entries (i + 1) row))
+out-more f d row i l y e h =
+    let more : entries (i + 1) row ≡ entries i row ++ take 16 (drop (16 * i) row) ∷ [] = rw (add-one i) (entries-more i row) in
+    Rooms.row-more f d 16 l (entries i row) (take 16 (drop (16 * i) row)) i y (sym e) (sym (length-entries i row)) h ∙ ap (λ (ws : List (List ℕ)). fit 16 d (map f ws)) (sym more)
