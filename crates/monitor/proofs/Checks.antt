@@ -20,7 +20,7 @@ use Rattle.step.specs.Lists.{beside, distinct}
 use Rattle.step.specs.Verdicts.{verdictFits, verdictIn}
 use Rattle.step.specs.Padding.{clear, padded, isZeroCall}
 use Rattle.monitor.specs.declared.Arms.{Arms}
-use Rattle.monitor.specs.declared.event.Tables.{Tables}
+use Rattle.monitor.specs.declared.sound.Tables.{Tables}
 use Rattle.monitor.specs.declared.WatchState.{WatchState}
 use Rattle.monitor.specs.Monitor.{Armed, tripleIn}
 use Rattle.monitor.specs.Sound.{rising, ofOneState, callSound, verdictSound, sound}

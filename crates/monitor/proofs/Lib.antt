@@ -9,16 +9,11 @@ pub mod Exclusive
 pub mod Rows
 pub mod Starting
 pub mod Triples
-pub mod Choosing
-pub mod Beside
 pub mod Arming
 pub mod Soundness
-pub mod Moving
 pub mod Views
-pub mod Entering
 pub mod Answering
 pub mod Testing
 pub mod Checks
-pub mod Leaving
-pub mod Skipping
 pub mod Machined
+pub mod Packed

@@ -22,7 +22,6 @@ use Rattle.monitor.specs.declared.WatchState.{WatchState}
 use Rattle.monitor.specs.Monitor.{Armed, State}
 use Rattle.monitor.specs.Sound.{callSound, sound}
 use Rattle.monitor.specs.Padded.{zeroArms, padArms, pad, shown, view, isZeroArms, tidyArms, tidy, soundState}
-use Rattle.monitor.specs.Walk.{Ready}
 
 -- Two lists side by side: as long as both, one side of them, and two images of one list.
 module _ {A B C : Type 0} (f : A → B → C) where
@@ -134,14 +133,8 @@ module _ (S : Sheet) where
       let calls = ap₂ (beside (shown (S .common .programs))) first second ∙ beside-same (callSound S) (shown (S .common .programs)) f g (shown-back fewer) (σ .calls) k in
       λ i. record { configuration = record { main = σ .configuration .main; variables = variables i }; calls = calls i; position = σ .position; verdict = verdict-outcome (σ .verdict) i }
 
--- A sound state as the operations take it, and what a padded one shows.
+-- What a padded state shows.
 module _ {s : List ℕ} (a : Accepted sheetLayout s) where
-  pub ready-sound : (w : WatchState) → soundState (sheetOf s) w ≡ true → Ready s w
-  unfolding soundState
-  ready-sound w h =
-      let (o, (t, g)) = simp and-iff at h in
-      record { sound = g; padded = pad-view (sheetOf s) w h }
-
   pub view-back : (σ : State) → sound (sheetOf s) σ ≡ true → view (sheetOf s) (pad σ) ≡ σ
   unfolding sheetOf
   view-back σ h = view-pad (sheetOf s) σ (bounds a .monitors) (bounds a .programs) h

@@ -6,3 +6,4 @@ pub mod Padded
 pub mod Answers
 pub mod Demand
 pub mod Walk
+pub mod Packed

@@ -13,8 +13,8 @@ use step::Call;
 use step::Outcome;
 use step::RunAnswer;
 
-mod event;
-mod follow;
+mod accepted;
+mod pack;
 mod sound;
 
 // The triples armed for an open call: the first `count` of four numbers.
@@ -111,8 +111,9 @@ impl WatchState {
 pub fn offer(s: &[u8], state: WatchState, event: Record, values: &[u32]) -> Offered
     ensures { λ r. ⌜ r ≡ offerOf (now (s .entry)) state (eventOf event (now (values .entry))) ⌝ }
 {
-    match sheet::read_sheet(s) {
-        Reading::Accepted => follow::offer_accepted(s, state, event, values),
+    let mut plan = [engine::ABSENT; engine::PLAN];
+    match engine::prepare_sheet(s, &mut plan) {
+        Reading::Accepted => accepted::offer_accepted(s, &plan, state, event, values),
         Reading::Refused(n) => Offered {
             answer: Answer::Refused(n),
             state,

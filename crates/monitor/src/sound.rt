@@ -2,11 +2,13 @@
 
 ghost use mathlib.Core.Path.{_≡_};
 ghost use mathlib.Core.Bool.{_&&_};
+ghost use Prim.Native.Nat.{_<_};
 ghost use lib.Dec.{eqb, ltb};
 ghost use lib.ListN.{length, getD, take, drop};
 ghost use Rattle.sheet.specs.Table.{every};
 ghost use Rattle.sheet.specs.Decode.{sheetOf};
 ghost use Rattle.sheet.specs.Reading.{reading, sheetLayout};
+ghost use Rattle.sheet.specs.Answer.{headerOf};
 ghost use Rattle.step.specs.Lists.{beside};
 ghost use Rattle.step.specs.Padding.{clear};
 ghost use Rattle.monitor.specs.Sound.{rising, callSound};
@@ -14,11 +16,24 @@ ghost use Rattle.monitor.specs.Padded.{shown, isZeroArms, tidyArms, soun
 ghost use Rattle.monitor.specs.Walk.{tablesOf, tripleAt};
 use crate::Arms;
 use crate::WatchState;
-use crate::event::Tables;
-use crate::event::long;
-use crate::event::wide;
-use crate::event::word;
+use sheet::Header;
 use step::Call;
+
+// The numbers of an accepted sheet's header, and where its triples begin.
+pub struct Tables {
+    pub header: Header,
+    pub triples: u16,
+}
+
+pub(crate) fn tables_of(s: &[u8], triples: u32) -> Tables
+    requires { ⌜ triples < 65536 ⌝ }
+    ensures { λ r. ⌜ r ≡ record { header = headerOf (now (s .entry)); triples = triples } ⌝ }
+{
+    Tables {
+        header: sheet::header_of(s),
+        triples: triples as u16,
+    }
+}
 
 pub(crate) fn sound(s: &[u8], t: Tables, state: WatchState) -> bool
     requires { ⌜ (reading sheetLayout (now s) ≡ 0) × (t ≡ tablesOf (now s)) ⌝ }
@@ -194,4 +209,22 @@ fn of_one_state(s: &[u8], at: u16, triples: [u8; 4], count: usize) -> bool
         i += 1;
     }
     true
+}
+
+pub(crate) fn wide(x: u8) -> usize
+    ensures { λ r. ⌜ (r ≡ x) × (r < 256) ⌝ }
+{
+    x as usize
+}
+
+fn word(x: u8) -> u32
+    ensures { λ r. ⌜ (r ≡ x) × (r < 256) ⌝ }
+{
+    x as u32
+}
+
+fn long(x: u16) -> u32
+    ensures { λ r. ⌜ (r ≡ x) × (r < 65536) ⌝ }
+{
+    x as u32
 }

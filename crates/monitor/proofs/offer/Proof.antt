@@ -1,17 +1,22 @@
 -- `offer` meets its contract. Assumes nothing.
-use Rattle.monitor.proofs.Answering.{offer-unread}
 use borrow.Author.Needs.{needs}
 use Rattle.sheet.proofs.Answers.{answer-accepted}
+use Rattle.engine.specs.Prepared.{sheetInto}
+use Rattle.engine.proofs.Preparing.{planned}
+use Rattle.monitor.proofs.Answering.{offer-unread}
 use Rattle.monitor.proofs.offer.Statement.{statement}
 use Rattle.monitor.proofs.offer.Tie as tie
 
 offer-accepted-requires : tie.Need-offer-accepted-requires
-offer-accepted-requires c κs = answer-accepted _ _ (c .before .before .read-sheet .ensures) (search needs)
+offer-accepted-requires c κs =
+    let a = c .before .before .before .before .before .before .before .args in
+    let h = answer-accepted _ _ (c .before .before .before .prepare-sheet .ensures .0) (search needs) in
+    (h, planned _ h (sheetInto (a .s .now)) _ (c .before .before .before .prepare-sheet .ensures .1))
 
 returns-2 : tie.Need-returns-2
 returns-2 c =
-    let a = c .before .before .before .before .before .before .args in
-    offer-unread _ _ (c .before .before .before .read-sheet .ensures) _ (search needs) (a .state) (a .event) (a .values .now)
+    let a = c .before .before .before .before .before .before .before .args in
+    offer-unread (a .s .now) _ (c .before .before .before .prepare-sheet .ensures .0) _ (search needs) (a .state) (a .event) (a .values .now)
 
 pub offer-spec : {M : Type 1} → statement M
 offer-spec =

@@ -1,0 +1,26 @@
+-- `accepted::offer_accepted` meets its contract. Assumes nothing.
+use mathlib.Core.Path.{sym, _∙_}
+use borrow.Author.Needs.{needs}
+use Rattle.monitor.proofs.Answering.{unsound}
+use Rattle.monitor.proofs.Packed.{triples-near, tables-there}
+use Rattle.monitor.proofs.accepted.offer_accepted.Statement.{statement}
+use Rattle.monitor.proofs.accepted.offer_accepted.Tie as tie
+
+tables-of-requires : tie.Need-tables-of-requires
+tables-of-requires c κs = triples-near _ _ (c .before .before .before .pre)
+
+sound-requires : tie.Need-sound-requires
+sound-requires c κs = (c .before .before .before .before .pre .0, tables-there _ _ (c .before .before .before .before .pre) _ (c .tables-of .ensures))
+
+offer-sound-requires : tie.Need-offer-sound-requires
+offer-sound-requires c κs = (c .before .before .before .before .before .before .pre .0, c .before .before .before .before .before .before .pre .1, sym (c .before .sound .ensures) ∙ c .if1 .taken)
+
+returns-2 : tie.Need-returns-2
+returns-2 c =
+    let a = c .before .before .before .before .before .before .args in
+    unsound (a .s .now) (a .state) (a .event) (a .values .now) (c .before .before .before .before .before .before .pre .0) (sym (c .before .sound .ensures) ∙ c .if1 .left)
+
+pub offer-accepted-spec : {M : Type 1} → statement M
+offer-accepted-spec =
+    tie.close
+    (tie.spec (λ c. search needs) tables-of-requires sound-requires offer-sound-requires (λ c. search needs) returns-2)

@@ -1,0 +1,71 @@
+// Offering an event on an accepted sheet: a sound state is packed into the engine's words, and what the
+// event makes of them is unpacked.
+
+ghost use mathlib.Core.Path.{_≡_};
+ghost use mathlib.Core.Bool.{true};
+ghost use Rattle.sheet.specs.Decode.{sheetOf};
+ghost use Rattle.sheet.specs.Reading.{reading, sheetLayout};
+ghost use Rattle.step.specs.Walk.{eventOf};
+ghost use Rattle.engine.specs.Prepared.{sheetPlan};
+ghost use Rattle.monitor.specs.Answers.{offerOf};
+ghost use Rattle.monitor.specs.Padded.{soundState};
+use crate::Offered;
+use crate::WatchState;
+use crate::pack;
+use crate::sound;
+use engine::PLAN;
+use sheet::Record;
+use step::Answer;
+
+pub(crate) fn offer_accepted(
+    s: &[u8],
+    plan: &[u32; PLAN],
+    state: WatchState,
+    event: Record,
+    values: &[u32],
+) -> Offered
+    requires { ⌜ (reading sheetLayout (now s) ≡ 0) × (now plan ≡ sheetPlan (now s)) ⌝ }
+    ensures { λ r. ⌜ r ≡ offerOf (now (s .entry)) state (eventOf event (now (values .entry))) ⌝ }
+{
+    let t = sound::tables_of(s, plan[5]);
+    if sound::sound(s, t, state) {
+        offer_sound(s, plan, state, event, values)
+    } else {
+        Offered {
+            answer: Answer::Refused(9),
+            state,
+        }
+    }
+}
+
+fn offer_sound(
+    s: &[u8],
+    plan: &[u32; PLAN],
+    state: WatchState,
+    event: Record,
+    values: &[u32],
+) -> Offered
+    requires { ⌜ (reading sheetLayout (now s) ≡ 0) × (now plan ≡ sheetPlan (now s)) × (soundState (sheetOf (now s)) state ≡ true) ⌝ }
+    ensures { λ r. ⌜ r ≡ offerOf (now (s .entry)) state (eventOf event (now (values .entry))) ⌝ }
+{
+    let h = sheet::header_of(s);
+    let given = engine::pack::given(event, values);
+    let eight = step::rows::eight(values);
+    let run = pack::running(state);
+    let mut row = pack::row(state);
+    let mut variables = state.variables;
+    let next = engine::advance(s, plan, run, &mut row, &mut variables, given, &eight);
+    if next.answer == 0 {
+        let programs = sound::wide(h.programs);
+        let monitors = sound::wide(h.monitors);
+        Offered {
+            answer: Answer::Taken,
+            state: pack::unpack(next.run, &row, &variables, programs, monitors),
+        }
+    } else {
+        Offered {
+            answer: Answer::Refused(next.answer),
+            state,
+        }
+    }
+}
