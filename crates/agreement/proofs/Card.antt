@@ -1,4 +1,9 @@
 -- The card's network, as it was written, does what the definition says of the sheet, and its conditions exclude each other. Assumes nothing.
+pub mod Joined
+pub mod FirstAlone
+pub mod Realised
+pub mod Admitted
+pub mod Rows
 use mathlib.Core.Path.{_≡_, refl, sym, subst}
 use mathlib.Core.Bool.{Bool, true, false}
 use mathlib.Core.List.{List}
@@ -21,8 +26,8 @@ use Rattle.translation.proofs.Cut.{never, card-sheet-accepted, card-short, card
 use Rattle.agreement.specs.Realises.{Realises}
 use Rattle.agreement.specs.Card.{Exclusive, CardAgrees, CardDemand, RefusedTooLong}
 use Rattle.agreement.proofs.Agreement.{as-defined}
-use Rattle.agreement.proofs.Realising.{card-exclusive, card-realises}
-use Rattle.agreement.proofs.Admitting.{separated-admitted}
+use Rattle.agreement.proofs.Card.Realised.{card-exclusive, card-realises}
+use Rattle.agreement.proofs.Card.Admitted.{separated-admitted}
 
 module _ (s : List ℕ) (h : reading sheetLayout s ≡ 0) (f : every (λ t. leb (length t) 1024) (joinedConditions (translate (sheetOf s))) ≡ true) where
   card-accepted : reading networkLayout (cardBytes s) ≡ 0

@@ -1,4 +1,7 @@
 -- The network that translating gives realises its sheet. Assumes nothing.
+pub mod Lookup
+pub mod Taken
+pub mod Written
 use mathlib.Core.Path.{_≡_, refl, ap, _∙_}
 use Prim.Native.Nat.{ℕ}
 use Rattle.condition.specs.Meaning.{Environment}
@@ -9,8 +12,8 @@ use Rattle.translation.specs.Translate.{extended, translate}
 use Rattle.monitor.specs.Monitor.{tripleIn}
 use Rattle.network.specs.Network.{templateIn}
 use Rattle.agreement.specs.Realises.{Realises}
-use Rattle.agreement.proofs.Looking.{meets-extended, template-same}
-use Rattle.agreement.proofs.Taking.{moved-same, created-same}
+use Rattle.agreement.proofs.Translation.Lookup.{meets-extended, template-same}
+use Rattle.agreement.proofs.Translation.Taken.{moved-same, created-same}
 
 judged-same : (S : Sheet) (i : ℕ) (E : Environment) → meets (translate S .common) (templateIn (translate S) i .postcondition) E ≡ meets (S .common) (tripleIn S i .postcondition) E
 unfolding translate

@@ -1,5 +1,5 @@
 -- What a network owes a sheet: it moves as the sheet does, an entry creates a checker for each triple armed, and a template is judged as its triple.
--- Demand 3 follows for every accepted network of which this holds, whatever its version.
+-- Sheet and network are then machines that are alike (`engine`), so demand 3 follows for every accepted network of which this holds, whatever its version.
 use mathlib.Core.Path.{_≡_}
 use mathlib.Core.Bool.{true}
 use mathlib.Core.List.{map}

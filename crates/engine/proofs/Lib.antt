@@ -28,3 +28,4 @@ pub mod Followed
 pub mod Simulated
 pub mod Ran
 pub mod Packed
+pub mod Alike

@@ -45,7 +45,7 @@ module _ (n : ℕ) where
       go false = refl
 
   -- Those of a number: none where no call has it, and those of its call where no two calls have one number.
-  bound-none : (l : List Armed) → any (ofNumber n) l ≡ false → keep (boundTo n) (rowOf l) ≡ []
+  pub bound-none : (l : List Armed) → any (ofNumber n) l ≡ false → keep (boundTo n) (rowOf l) ≡ []
   unfolding any keep rowOf
   bound-none [] h = refl
   bound-none (a ∷ l) h =

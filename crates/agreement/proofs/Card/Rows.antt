@@ -13,7 +13,6 @@ use Rattle.sheet.specs.Decode.{networkOf}
 use Rattle.sheet.specs.Decode as Decode
 use Rattle.sheet.proofs.Rows.{networkA, cardA}
 use Rattle.step.specs.Lists.{keep}
-use Rattle.step.specs.Lists as Lists
 use Rattle.step.specs.Meets as Meets
 use Rattle.agreement.specs.Card.{holdsFor}
 

@@ -8,13 +8,12 @@ use Prim.Native.Nat.{ℕ, zero, suc, _≤_}
 use native.Mathlib.Omega.{arith}
 use borrow.Author.Tests.{eqb-true, eq-eqb, ne-eqb, ltb-true}
 use lib.Dec.{eqb, ltb}
-use lib.ListN.{length, take, length-map}
+use lib.ListN.{length, length-map}
 use Rattle.sheet.specs.Parts.{Sheet}
 use Rattle.sheet.specs.Table.{every}
 use Rattle.sheet.specs.Log.{Event}
 use Rattle.sheet.proofs.Tables.{and-parts}
 use Rattle.step.specs.Lists.{first, keep, any, distinct}
-use Rattle.step.specs.Runs.{offered}
 use Rattle.step.specs.Answers.{answerOf}
 use Rattle.step.proofs.Lists.{Among, none-some, kept-passes, passes-kept}
 use Rattle.step.proofs.Keeping.{keep-map, keep-both}
@@ -30,10 +29,10 @@ use Rattle.monitor.proofs.Broken.{Plain, armed-arms, arms-armed}
 use Rattle.monitor.proofs.Arming.{armed-rising}
 use Rattle.network.specs.declared.Checker.{Checker}
 use Rattle.network.specs.Network.{boundTo}
+use Rattle.network.specs.Grouped.{checker, rowOf}
+use Rattle.network.proofs.Bound.{bound-none, bound-first}
 use Rattle.agreement.specs.Demand.{Living, armedRow, living, follow, many, Due, takenOf, whenTaken}
-use Rattle.agreement.proofs.Mirror.{checker, rowOf}
-use Rattle.agreement.proofs.Bound.{bound-none, bound-first}
-use Rattle.agreement.proofs.Showing.{row-own}
+use Rattle.agreement.proofs.Agreement.Row.{row-own}
 
 -- Of rising numbers each stands once.
 module _ (i : ℕ) where

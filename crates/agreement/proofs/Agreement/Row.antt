@@ -1,26 +1,22 @@
--- What the network's state shows where it mirrors the definition's. Assumes nothing.
+-- What a network's state shows where it is the definition's, its checkers in a row of their own. Assumes nothing.
 use mathlib.Core.Path.{_≡_, refl, sym, ap, ap₂, _∙_}
 use mathlib.Core.Logic.{inl, inr}
 use mathlib.Core.Bool.{true}
 use mathlib.Core.Option.{Option, some}
-use mathlib.Core.List.{List, [], _∷_, _++_, map, map-append}
+use mathlib.Core.List.{List, [], _∷_, _++_, map, map-map, map-append}
 use borrow.Author.Tests.{eq-eqb}
 use lib.Dec.{eqb}
 use Rattle.sheet.proofs.Tests.{and-iff, not-iff}
 use Rattle.step.specs.declared.Answer.{Answer}
-use Rattle.step.specs.Lists.{first, any, distinct}
+use Rattle.step.specs.Lists.{first, distinct}
 use Rattle.step.specs.Calls.{Call}
 use Rattle.step.proofs.Lists.{Among, any-map}
 use Rattle.monitor.specs.Monitor as Monitor
 use Rattle.monitor.specs.Monitor.{Armed}
 use Rattle.network.specs.Network.{ofNumber}
+use Rattle.network.specs.Grouped.{checker, rowOf, ungrouped}
 use Rattle.network.proofs.Created.{none-among}
 use Rattle.agreement.specs.Demand.{Living, opened, armedRow, keptBy, living, shownIn, shownBySheet}
-use Rattle.agreement.proofs.Mirror.{checker, rowOf, mirror}
-
-pub images : {A B D : Type 0} (g : B → D) (f : A → B) (l : List A) → map g (map f l) ≡ map (λ x. g (f x)) l
-images g f [] = refl
-images {D} g f (x ∷ l) = ap (λ (m : List D). g (f x) ∷ m) (images g f l)
 
 -- Each call is the first of its number.
 first-own : (l : List Armed) → distinct (map (λ (a : Armed). a .call .number) l) ≡ true → (a : Armed) → Among a l → first (ofNumber (a .call .number)) (map (λ (a : Armed). a .call) l) ≡ some (a .call)
@@ -39,14 +35,14 @@ row-shown calls [] h = refl
 row-shown calls (a ∷ l) h =
     let row : Option Call → List Living = λ o. map (λ i. record { number = a .call .number; triple = i; entry = keptBy o }) (a .armed) in
     map-append (living calls) (map (checker (a .call .number)) (a .armed)) (rowOf l)
-    ∙ ap₂ (λ (x y : List Living). x ++ y) (images (living calls) (checker (a .call .number)) (a .armed) ∙ ap row (h a (inl refl))) (row-shown calls l (λ b m. h b (inr m)))
+    ∙ ap₂ (λ (x y : List Living). x ++ y) (map-map (living calls) (checker (a .call .number)) (a .armed) ∙ ap row (h a (inl refl))) (row-shown calls l (λ b m. h b (inr m)))
 
 pub row-own : (l : List Armed) → distinct (map (λ (a : Armed). a .call .number) l) ≡ true → map (living (map (λ (a : Armed). a .call) l)) (rowOf l) ≡ armedRow l
 row-own l d = row-shown (map (λ (a : Armed). a .call) l) l (first-own l d)
 
-pub shown-same : (answers : List Answer) (σ : Monitor.State) → distinct (map (λ (a : Armed). a .call .number) (σ .calls)) ≡ true → shownIn answers (mirror σ) ≡ shownBySheet (record { answers = answers; state = σ })
-unfolding mirror shownBySheet
+pub shown-same : (answers : List Answer) (σ : Monitor.State) → distinct (map (λ (a : Armed). a .call .number) (σ .calls)) ≡ true → shownIn answers (ungrouped σ) ≡ shownBySheet (record { answers = answers; state = σ })
+unfolding ungrouped shownBySheet
 shown-same answers σ d =
-    let calls = images opened (λ (a : Armed). a .call) (σ .calls) in
+    let calls = map-map opened (λ (a : Armed). a .call) (σ .calls) in
     let row = row-own (σ .calls) d in
     λ i. record { answers = answers; verdict = σ .verdict; position = σ .position; main = σ .configuration .main; variables = σ .configuration .variables; calls = calls i; checkers = row i }

@@ -1,6 +1,6 @@
 -- The card's network is admitted in version 3 where its conditions are short enough. Assumes nothing.
 use mathlib.Core.Path.{_≡_, refl, sym, ap, subst, _∙_}
-use mathlib.Core.Bool.{Bool, true, false, not, cond, _&&_}
+use mathlib.Core.Bool.{Bool, true, false, not, _&&_}
 use mathlib.Core.List.{List, [], _∷_, _++_, map}
 use Prim.Native.Nat.{ℕ, suc, _+_, _-_, _≤_, _<_}
 use native.Mathlib.Omega.{arith}
@@ -26,7 +26,7 @@ use Rattle.translation.proofs.Networks.{every-two}
 use Rattle.translation.proofs.Joining.{length-joined}
 use Rattle.translation.proofs.Guarding.{length-guarded}
 use Rattle.translation.specs.Card.{joinedText, joinedFrom, guardedBy, guardedFrom, joinedConditions, withConditions, separated}
-use Rattle.agreement.proofs.Joined.{Says, says-parses, joins}
+use Rattle.agreement.proofs.Card.Joined.{Says, says-parses, joins}
 
 bytes-some : (c : Condition) → 1 ≤ length (conditionBytes c)
 unfolding conditionBytes

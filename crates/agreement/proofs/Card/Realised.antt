@@ -23,16 +23,16 @@ use Rattle.step.specs.Meets.{meets, acted}
 use Rattle.step.specs.Moves.{Configuration, seen, enabled, after, moved}
 use Rattle.step.proofs.Lists.{Among, headOf, first-keep, first-passes}
 use Rattle.step.proofs.Keeping.{keep-map, keep-same, every-among}
+use Rattle.engine.proofs.Carried.{image, first-image}
 use Rattle.network.specs.declared.Checker.{Checker}
 use Rattle.network.specs.Network.{templateIn, pairsIn, created}
 use Rattle.translation.specs.Translate.{translate, extended}
+use Rattle.translation.specs.Card.{guardedFrom, joinedConditions, withConditions, separated, card}
 use Rattle.translation.proofs.Networks.{translate-admitted}
 use Rattle.agreement.specs.Realises.{Realises}
-use Rattle.agreement.proofs.Taking.{image, first-image}
-use Rattle.agreement.proofs.Translation.{translate-realises}
-use Rattle.translation.specs.Card.{guardedFrom, joinedConditions, withConditions, separated, card}
 use Rattle.agreement.specs.Card.{holdsFor, Exclusive}
-use Rattle.agreement.proofs.Separate.{only, length-only, plain, meets-old, first-only}
+use Rattle.agreement.proofs.Translation.{translate-realises}
+use Rattle.agreement.proofs.Card.FirstAlone.{only, length-only, plain, meets-old, first-only}
 
 -- First elements of images, and of the first alone.
 head-image : {A B : Type 0} (f : A → B) (l : List A) → headOf (map f l) ≡ image f (headOf l)

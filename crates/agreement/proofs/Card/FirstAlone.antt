@@ -1,7 +1,6 @@
 -- Of the transitions whose condition holds, the card's network has the first alone. Assumes nothing.
 use mathlib.Core.Path.{_≡_, refl, ap, _∙_}
 use mathlib.Core.Bool.{Bool, true, false, not, cond, _&&_}
-use mathlib.Core.Option.{none}
 use mathlib.Core.List.{List, [], _∷_, _++_, map}
 use Prim.Native.Nat.{ℕ, suc, _+_, _≤_, _<_}
 use native.Mathlib.Omega.{arith}
@@ -20,7 +19,7 @@ use Rattle.step.proofs.Turns.{any-append}
 use Rattle.step.specs.Meets.{meets}
 use Rattle.translation.specs.Card.{isOf, joinedText, joinedFrom, guardedBy, guardedFrom, joinedConditions, withConditions}
 use Rattle.agreement.specs.Card.{holdsFor}
-use Rattle.agreement.proofs.Joined.{says-parses, joins}
+use Rattle.agreement.proofs.Card.Joined.{says-parses, joins}
 
 any-more : {A : Type 0} (p : A → Bool) (l : List A) (x : A) → any p (l ++ x ∷ []) ≡ cond (any p l) true (p x)
 unfolding any

@@ -20,22 +20,19 @@ use Rattle.step.specs.Meets.{meets, acted}
 use Rattle.step.specs.Moves.{Configuration, seen, enabled, after, moved}
 use Rattle.step.specs.Calls.{isEntry}
 use Rattle.step.proofs.Lists.{Among, first-passes}
+use Rattle.engine.proofs.Carried.{image, first-image}
 use Rattle.translation.specs.Translate.{pairsFrom, pairsOf, copied, back, joined, added, extended, translate}
 use Rattle.monitor.specs.Monitor.{arms, armedBy}
 use Rattle.network.specs.declared.Checker.{Checker}
 use Rattle.network.specs.Network.{pairsIn, created}
+use Rattle.network.specs.Grouped.{checker}
 use Rattle.network.proofs.Ordering.{among-image}
-use Rattle.agreement.proofs.Mirror.{checker}
-use Rattle.agreement.proofs.Looking.{meets-extended, acted-extended, enabled-extended, added-condition, added-action}
+use Rattle.agreement.proofs.Translation.Lookup.{meets-extended, acted-extended, enabled-extended, added-condition, added-action}
 
--- The first of joined lists, of images, and by tests that agree.
+-- The first of joined lists, and by tests that agree.
 abbrev orFirst : {A : Type 0} → Option A → Option A → Option A
 orFirst none o = o
 orFirst (some x) o = some x
-
-abbrev pub image : {A B : Type 0} → (A → B) → Option A → Option B
-image f none = none
-image f (some x) = some (f x)
 
 module _ {A : Type 0} (p : A → Bool) where
   first-append : (l m : List A) → first p (l ++ m) ≡ orFirst (first p l) (first p m)
@@ -44,15 +41,6 @@ module _ {A : Type 0} (p : A → Bool) where
   first-append (x ∷ l) m = go (p x) (first-append l m)
     where
       go : (b : Bool) → first p (l ++ m) ≡ orFirst (first p l) (first p m) → cond b (some x) (first p (l ++ m)) ≡ orFirst (cond b (some x) (first p l)) (first p m)
-      go true h = refl
-      go false h = h
-
-  pub first-image : {B : Type 0} (f : B → A) (l : List B) → first p (map f l) ≡ image f (first (λ x. p (f x)) l)
-  unfolding first
-  first-image f [] = refl
-  first-image f (x ∷ l) = go (p (f x)) (first-image f l)
-    where
-      go : (b : Bool) → first p (map f l) ≡ image f (first (λ x. p (f x)) l) → cond b (some (f x)) (first p (map f l)) ≡ image f (cond b (some x) (first (λ x. p (f x)) l))
       go true h = refl
       go false h = h
 
