@@ -16,7 +16,7 @@ use Rattle.sheet.proofs.Tables.{and-parts}
 use Rattle.step.specs.Lists.{first, keep, any, distinct}
 use Rattle.step.specs.Answers.{answerOf}
 use Rattle.step.proofs.Lists.{Among, none-some, kept-passes, passes-kept}
-use Rattle.step.proofs.Keeping.{keep-map, keep-both}
+use Rattle.step.proofs.Keeping.{every-among, keep-map, keep-both}
 use Rattle.step.proofs.Runs.{offered-answer}
 use Rattle.monitor.specs.Monitor as Monitor
 use Rattle.monitor.specs.Monitor.{Armed, ofNumber, initial}
@@ -30,23 +30,15 @@ use Rattle.monitor.proofs.Arming.{armed-rising}
 use Rattle.network.specs.declared.Checker.{Checker}
 use Rattle.network.specs.Network.{boundTo}
 use Rattle.network.specs.Grouped.{checker, rowOf}
+use Rattle.network.proofs.Created.{none-kept}
 use Rattle.network.proofs.Bound.{bound-none, bound-first}
 use Rattle.agreement.specs.Demand.{Living, armedRow, living, follow, many, Due, takenOf, whenTaken}
 use Rattle.agreement.proofs.Agreement.Row.{row-own}
 
 -- Of rising numbers each stands once.
 module _ (i : ℕ) where
-  abbrev count : List ℕ → ℕ
-  count l = length (keep (λ j. eqb j i) l)
-
   above-none : (x : ℕ) (l : List ℕ) → i ≤ x → every (ltb x) l ≡ true → keep (λ j. eqb j i) l ≡ []
-  unfolding every keep
-  above-none x [] h k = refl
-  above-none x (y ∷ l) h k =
-      let (a, b) = and-parts (ltb x y) (every (ltb x) l) k in
-      let low = ltb-true x y a in
-      let other : eqb y i ≡ false = ne-eqb y i (λ e. omega arith) in
-      rw other (above-none x l h b)
+  above-none x l h k = none-kept (λ j. eqb j i) l (λ y m. let low = ltb-true x y (every-among (ltb x) l y k m) in ne-eqb y i (λ e. omega arith))
 
   rising-once : (l : List ℕ) → rising l ≡ true → length (keep (λ j. eqb j i) l) ≤ 1
   unfolding rising keep

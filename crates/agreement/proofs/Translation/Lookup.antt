@@ -1,20 +1,20 @@
 -- The conditions, actions and templates of a sheet's network are those of the sheet. Assumes nothing.
 use mathlib.Core.Path.{_≡_, refl, ap}
 use mathlib.Core.Bool.{true, _&&_}
-use mathlib.Core.List.{List, [], _∷_, _++_, map}
+use mathlib.Core.List.{List, [], _∷_, _++_}
 use Prim.Native.Nat.{ℕ, zero, suc}
 use lib.Dec.{eqb}
-use lib.ListN.{length, getD}
+use lib.ListN.{length, getD, List·getD-map}
 use Rattle.condition.specs.Parse.{conditionOperator, conditionFrom, runFrom, parseCondition, parseAction}
 use Rattle.condition.specs.Meaning.{Environment, holds, performed}
 use Rattle.condition.specs.Answer.{whether}
 use Rattle.sheet.specs.declared.Transition.{Transition}
-use Rattle.sheet.specs.declared.Triple.{Triple}
 use Rattle.sheet.specs.Parts.{Common, Sheet}
-use Rattle.sheet.specs.Reading.{lentIn, noTemplate}
+use Rattle.sheet.specs.Reading.{lentIn}
 use Rattle.sheet.specs.Log.{Event}
 use Rattle.step.specs.Meets.{meets, performedBy, acted}
 use Rattle.step.specs.Moves.{Configuration, seen, enabled}
+use Rattle.engine.specs.Machines.{noTriple}
 use Rattle.translation.specs.Translate.{extended, templateOf, translate}
 use Rattle.monitor.specs.Monitor.{tripleIn}
 use Rattle.network.specs.Network.{templateIn}
@@ -53,11 +53,6 @@ module _ (C : Common) where
   added-action E = ap (λ (t : List ℕ). performedBy (parseAction (lentIn C) t) E) (getD-last (C .actions) [])
 
 -- "Triple i becomes template i."
-getD-image : (l : List Triple) (i : ℕ) → getD (map templateOf l) i noTemplate ≡ templateOf (getD l i (record { state = 0; unit = 0; precondition = 0; postcondition = 0 }))
-getD-image [] i = refl
-getD-image (t ∷ l) zero = refl
-getD-image (t ∷ l) (suc i) = getD-image l i
-
 pub template-same : (S : Sheet) (i : ℕ) → templateIn (translate S) i ≡ templateOf (tripleIn S i)
 unfolding translate
-template-same S i = getD-image (S .triples) i
+template-same S i = List·getD-map templateOf (S .triples) i noTriple
