@@ -1,4 +1,4 @@
--- Demand 3. Assumes nothing.
+-- Demand 3, from what an accepted network that realises an accepted sheet does. Assumes nothing.
 pub mod Machines
 pub mod Row
 pub mod Exact

@@ -16,7 +16,7 @@ use Rattle.step.proofs.Keeping.{keep-same}
 use Rattle.step.proofs.Refusing.{free}
 use Rattle.engine.specs.Machine.{Machine, Armed, State, fresh, fails, failing, ofNumber, entered, exited, refusal, offer, run}
 
--- the numbers that an entry arms, in the states and for the units that are declared
+-- The same start, moves and judging; the same numbers armed at an entry, in a state and for a unit that are declared: an exit arms none, whatever `arming` says.
 pub record Alike (M N : Machine) : Type 0 where
   pub units : M .common .units ≡ N .common .units
   pub programs : M .common .programs ≡ N .common .programs
