@@ -13,8 +13,8 @@ use Rattle.condition.specs.Word.{plusWord, minusWord, lessWord, equalWor
 use Rattle.condition.specs.Tree.{Variable, program, monitor, atEntry, Condition, negation, both, either, less, equal, within, Value, plus, minus, choose}
 use Rattle.condition.specs.Parse.{Parsed, malformed, parsed, Reader, andThen, one, two, three, isLent, literal, numbered, ConditionOperator, opTrue, opNot, opAnd, opOr, opLess, opEqual, opWithin, noCondition, conditionOperator, conditionWith, ValueOperator, opConstant, opProgram, opMonitor, opAtEntry, opPlus, opMinus, opChoose, noValue, valueOperator, valueWith}
 use Rattle.condition.specs.Meaning.{Environment, lent, valueOf, holds, word}
-use Rattle.condition.specs.Walk.{bit, Ends, Skips, Gives, Means, conditionReader, valueReader, conditionBit, valueWord, EvaluatesCondition, EvaluatesValue, bank, banks, Judged, Packed, literalEnd, variableEnd, literalAt, variableAt, negated, WordTried, LeafEvaluated}
-use Rattle.condition.proofs.Walking.{condition-opens, value-opens, none-past, skips-past, condition-nil, value-nil, no-value, none-short, skips-short, tried-none, either-way, literal-at, literal-short, numbered-at, numbered-short, condition-two, value-two, skips-true, skips-not, skips-and, skips-or, skips-within, skips-literal, skips-variable, skips-choose, skips-no-condition, skips-no-value}
+use Rattle.condition.specs.Walk.{bit, Ends, Skips, Gives, Means, conditionReader, valueReader, conditionBit, valueWord, EvaluatesCondition, EvaluatesValue, bank, banks, Judged, Packed, literalEnd, variableEnd, literalAt, variableAt, negated, WordTried, LeafEvaluated, SimpleEvaluated}
+use Rattle.condition.proofs.Walking.{condition-opens, value-opens, none-past, skips-past, condition-nil, value-nil, no-value, none-short, skips-short, tried, tried-none, either-way, literal-at, literal-short, numbered-at, numbered-short, condition-two, value-two, skips-true, skips-not, skips-and, skips-or, skips-within, skips-literal, skips-variable, skips-choose, skips-no-condition, skips-no-value}
 
 -- from what is known of the parts to what is known of the whole
 pub gives-any : {A : Type 0} (p : Parsed A) → Gives (λ _. Unit {0}) p
@@ -64,6 +64,9 @@ module _ (E : Environment) (s : List ℕ) (at : ℕ) where
 
   pub as-packed : (q w r : ℕ) → Packed q w r → EvaluatesValue E s at q w → EvaluatesValue E s at (r / 2 ^ 32) (r % 2 ^ 32)
   as-packed q w r j x = rw (j .place, j .value) x
+
+  pub as-simple : (q : ℕ) (b : Bool) (r : ℕ) → Judged q b r → (q ≡ 0 → ⊥) → EvaluatesCondition E s at q (bit b) → SimpleEvaluated E s at r
+  as-simple q b r j f x = tried r (omega (arith, j .place)) (as-judged q b r j x)
 
   -- at the end and past it
   pub condition-past : length s ≤ at → at ≤ length s + 1 → EvaluatesCondition E s at (length s + 1) (bit false)
@@ -232,6 +235,10 @@ module _ (E : Environment) (s : List ℕ) (at : ℕ) where
   -- an operand that was read by a call or without
   pub operand : {A B T : Type 0} (l a : T) (next word : T → ℕ) → LeafEvaluated E s at (next l) (word l) → A ⊎ B → (A → EvaluatesValue E s at (next a) (word a)) → (B → (next l ≡ 0 → ⊥) × (a ≡ l)) → EvaluatesValue E s at (next a) (word a)
   operand l a next word x c f g = either-way (λ t. EvaluatesValue E s at (next t) (word t)) next l a x c f g
+
+  -- an operand that was judged by a call or without
+  pub sub-condition : {A B : Type 0} (q a : ℕ) → SimpleEvaluated E s at q → A ⊎ B → (A → EvaluatesCondition E s at (a / 2) (a % 2)) → (B → (q ≡ 0 → ⊥) × (a ≡ q)) → EvaluatesCondition E s at (a / 2) (a % 2)
+  sub-condition q a x c f g = either-way (λ (r : ℕ). EvaluatesCondition E s at (r / 2) (r % 2)) (λ (r : ℕ). r) q a x c f g
 
 one-of-three : (o : ℕ) → 17 ≤ o → o ≤ 19 → (o ≡ 17) ⊎ ((o ≡ 18) ⊎ (o ≡ 19))
 one-of-three o i j = go (ltb 17 o) refl (ltb 18 o) refl

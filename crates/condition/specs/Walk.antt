@@ -118,6 +118,10 @@ LeafSkipped L s at r = Tried (Skips (valueReader L) s at r) (NoOperands s at →
 abbrev pub LeafEvaluated : Environment → List ℕ → ℕ → ℕ → ℕ → Type 0
 LeafEvaluated E s at q w = Tried (EvaluatesValue E s at q w) (NoOperands s at → EvaluatesValue E s at (length s + 1) 0) q
 
+-- A comparison of two of them at a place, judged. Where there is none, nothing is said.
+abbrev pub SimpleEvaluated : Environment → List ℕ → ℕ → ℕ → Type 0
+SimpleEvaluated E s at r = Tried (EvaluatesCondition E s at (r / 2) (r % 2)) (Unit {0}) r
+
 abbrev pub negated : ℕ → Bool
 negated n = eqb n 0
 

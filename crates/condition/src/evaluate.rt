@@ -7,7 +7,7 @@ ghost use Prim.Native.Nat.{_+_, _/_, _%_, _^_, _≤_, _<_};
 ghost use lib.ListN.{length};
 ghost use Rattle.condition.specs.Word.{plusWord, minusWord, lessWord, equalWord, withinWord};
 ghost use Rattle.condition.specs.Meaning.{lent};
-ghost use Rattle.condition.specs.Walk.{Skips, EvaluatesCondition, EvaluatesValue, conditionReader, valueReader, banks, Judged, Packed, literalEnd, variableEnd, literalAt, variableAt, negated, WordTried, LeafEvaluated};
+ghost use Rattle.condition.specs.Walk.{Skips, EvaluatesCondition, EvaluatesValue, conditionReader, valueReader, banks, Judged, Packed, literalEnd, variableEnd, literalAt, variableAt, negated, WordTried, LeafEvaluated, SimpleEvaluated};
 use crate::skip;
 use crate::word;
 
@@ -28,53 +28,60 @@ pub(crate) fn condition(s: &&[u8], at: usize, e: &[&[u32]; 3]) -> usize
         return judged(s.len() + 1, false);
     }
     let o = s[at];
-    match o {
-        0 => judged(at + 1, true),
-        1 => negate(condition(s, at + 1, e)),
-        2 => {
-            let a = condition(s, at + 1, e);
-            if a % 2 == 1 {
-                condition(s, a / 2, e)
-            } else {
-                judged(pass_condition(s, a / 2, e), false)
-            }
+    // Comparisons are the most frequent, so a byte that is no operator is told behind them.
+    if 3 < o {
+        let l = leaf(s, at + 1, e);
+        let a = if l.next == 0 {
+            opened(value(s, at + 1, e))
+        } else {
+            l
+        };
+        let l = leaf(s, a.next, e);
+        let b = if l.next == 0 {
+            opened(value(s, a.next, e))
+        } else {
+            l
+        };
+        if o == 4 {
+            return less(a, b);
         }
-        3 => {
-            let a = condition(s, at + 1, e);
-            if a % 2 == 1 {
-                judged(pass_condition(s, a / 2, e), true)
-            } else {
-                condition(s, a / 2, e)
-            }
+        if o == 5 {
+            return equal(a, b);
         }
-        4 | 5 | 6 => {
-            let l = leaf(s, at + 1, e);
-            let a = if l.next == 0 {
-                opened(value(s, at + 1, e))
-            } else {
-                l
-            };
-            let l = leaf(s, a.next, e);
-            let b = if l.next == 0 {
-                opened(value(s, a.next, e))
-            } else {
-                l
-            };
-            if o == 4 {
-                return less(a, b);
-            }
-            if o == 5 {
-                return equal(a, b);
-            }
-            let l = leaf(s, b.next, e);
-            let t = if l.next == 0 {
-                opened(value(s, b.next, e))
-            } else {
-                l
-            };
+        let l = leaf(s, b.next, e);
+        let t = if l.next == 0 {
+            opened(value(s, b.next, e))
+        } else {
+            l
+        };
+        if o == 6 {
             within(a, b, t)
+        } else {
+            judged(s.len() + 1, false)
         }
-        _ => judged(s.len() + 1, false),
+    } else {
+        match o {
+            0 => judged(at + 1, true),
+            1 => negate(condition(s, at + 1, e)),
+            // `and` and `or`. Their first operand is mostly simple; elsewhere trying that costs more.
+            _ => {
+                let q = simple(s, at + 1, e);
+                let a = if q == 0 { condition(s, at + 1, e) } else { q };
+                if o == 2 {
+                    if a % 2 == 1 {
+                        condition(s, a / 2, e)
+                    } else {
+                        judged(pass_condition(s, a / 2, e), false)
+                    }
+                } else {
+                    if a % 2 == 1 {
+                        judged(pass_condition(s, a / 2, e), true)
+                    } else {
+                        condition(s, a / 2, e)
+                    }
+                }
+            }
+        }
     }
 }
 
@@ -133,6 +140,30 @@ pub(crate) fn value(s: &&[u8], at: usize, e: &[&[u32]; 3]) -> usize
                 packed(l.next, l.word)
             }
         }
+    }
+}
+
+// `less` or `equal` of two leaves, judged without the cost of a recursive call; 0, which is behind
+// nothing, where there is none. Few other operators have two leaves behind them, so it is told last.
+fn simple(s: &&[u8], at: usize, e: &[&[u32]; 3]) -> usize
+    requires { ⌜ (length (now (now s)) ≤ 65535) × (at ≤ length (now (now s)) + 1) ⌝ }
+    ensures { λ r. ⌜ SimpleEvaluated (banks (now (e .entry))) (now (now (s .entry))) at r ⌝ }
+{
+    if at + 4 < s.len() {} else {
+        return 0;
+    }
+    let a = leaf(s, at + 1, e);
+    if a.next == 0 {
+        return 0;
+    }
+    let b = leaf(s, a.next, e);
+    if b.next == 0 {
+        return 0;
+    }
+    match s[at] {
+        4 => less(a, b),
+        5 => equal(a, b),
+        _ => 0,
     }
 }
 

@@ -5,7 +5,7 @@ use native.Mathlib.Omega.{arith}
 use borrow.Author.Needs.{needs}
 use lib.ListN.{length}
 use Rattle.condition.proofs.Walking.{no-condition}
-use Rattle.condition.proofs.Evaluating.{as-judged, as-packed, condition-past, value-past, evaluates-true, evaluates-not, and-right, and-left, or-right, or-left, evaluates-less, evaluates-equal, evaluates-within, no-condition-there, evaluates-plus, evaluates-minus, choose-left, choose-right, operand}
+use Rattle.condition.proofs.Evaluating.{as-judged, as-packed, condition-past, value-past, evaluates-true, evaluates-not, and-right, and-left, or-right, or-left, evaluates-less, evaluates-equal, evaluates-within, no-condition-there, evaluates-plus, evaluates-minus, choose-left, choose-right, operand, sub-condition}
 use borrow.Fn.Kinds.{In}
 use borrow.Fn.PlainCycle.{Measures, is, falls, and}
 use Rattle.condition.proofs.evaluate.condition.Reads as condition
@@ -25,6 +25,7 @@ use Rattle.condition.proofs.evaluate.packed.Reads as packed-reads
 use Rattle.condition.proofs.evaluate.pass_condition.Reads as pass-condition-reads
 use Rattle.condition.proofs.evaluate.pass_value.Reads as pass-value-reads
 use Rattle.condition.proofs.evaluate.plus.Reads as plus-reads
+use Rattle.condition.proofs.evaluate.simple.Reads as simple-reads
 use Rattle.condition.proofs.evaluate.within.Reads as within-reads
 use Rattle.condition.proofs.evaluate.word_of.Reads as word-of-reads
 use Rattle.condition.proofs.evaluate.+condition+value.{statement}
@@ -57,12 +58,6 @@ pub +condition+value-spec : {M : Type 1} → statement M
     (λ t. condition-lts.spec (
       judged-reads.Asked,
       judged-reads.Learnt,
-      condition-below t,
-      condition.Post,
-      negate-reads.Asked,
-      negate-reads.Learnt,
-      pass-condition-reads.Asked,
-      pass-condition-reads.Learnt,
       leaf-reads.Asked,
       leaf-reads.Learnt,
       value-below t,
@@ -75,6 +70,14 @@ pub +condition+value-spec : {M : Type 1} → statement M
       equal-reads.Learnt,
       within-reads.Asked,
       within-reads.Learnt,
+      condition-below t,
+      condition.Post,
+      negate-reads.Asked,
+      negate-reads.Learnt,
+      simple-reads.Asked,
+      simple-reads.Learnt,
+      pass-condition-reads.Asked,
+      pass-condition-reads.Learnt,
     )
     (condition-at t)
     condition.Post
@@ -87,42 +90,42 @@ pub +condition+value-spec : {M : Type 1} → statement M
     (λ c. search needs)
     (λ c κs. omega arith)
     (λ c κs. omega arith)
+    (λ c κs. let x = operand _ _ _ _ (c .if3 .a) (λ x. x .next) (λ x. x .word) (c .before .before .leaf .ensures) (c .if3 .came) (λ w. rw (w .3) (rw (w .2 .ensures .0, w .2 .ensures .1) (w .1 .ensures))) (λ w. (w .0 .left, w .1)) in omega (arith, x .skips .low, x .skips .high))
+    (λ c κs. let x = operand _ _ _ _ (c .before .before .before .if3 .a) (λ x. x .next) (λ x. x .word) (c .before .before .before .before .before .leaf .ensures) (c .before .before .before .if3 .came) (λ w. rw (w .3) (rw (w .2 .ensures .0, w .2 .ensures .1) (w .1 .ensures))) (λ w. (w .0 .left, w .1)) in omega (arith, x .skips .low, x .skips .high))
+    (λ c κs. omega arith)
+    (λ c κs. let y = operand _ _ _ _ (c .before .if4 .b) (λ x. x .next) (λ x. x .word) (c .before .before .before .leaf2 .ensures) (c .before .if4 .came) (λ w. rw (w .3) (rw (w .2 .ensures .0, w .2 .ensures .1) (w .1 .ensures))) (λ w. (w .0 .left, w .1)) in omega (arith, y .skips .high))
+    (λ c. as-judged _ _ _ _ _ _ (c .less .ensures) (evaluates-less _ _ _ (c .before .before .before .before .before .before .before .before .before .before .if1 .taken) _ _ _ _ (operand _ _ _ _ (c .before .before .before .before .before .if3 .a) (λ x. x .next) (λ x. x .word) (c .before .before .before .before .before .before .before .leaf .ensures) (c .before .before .before .before .before .if3 .came) (λ w. rw (w .3) (rw (w .2 .ensures .0, w .2 .ensures .1) (w .1 .ensures))) (λ w. (w .0 .left, w .1))) (operand _ _ _ _ (c .before .before .if4 .b) (λ x. x .next) (λ x. x .word) (c .before .before .before .before .leaf2 .ensures) (c .before .before .if4 .came) (λ w. rw (w .3) (rw (w .2 .ensures .0, w .2 .ensures .1) (w .1 .ensures))) (λ w. (w .0 .left, w .1))) (c .before .if5 .taken)))
+    (λ c κs. let y = operand _ _ _ _ (c .before .before .if4 .b) (λ x. x .next) (λ x. x .word) (c .before .before .before .before .leaf2 .ensures) (c .before .before .if4 .came) (λ w. rw (w .3) (rw (w .2 .ensures .0, w .2 .ensures .1) (w .1 .ensures))) (λ w. (w .0 .left, w .1)) in omega (arith, y .skips .high))
+    (λ c. as-judged _ _ _ _ _ _ (c .equal .ensures) (evaluates-equal _ _ _ (c .before .before .before .before .before .before .before .before .before .before .before .if1 .taken) _ _ _ _ (operand _ _ _ _ (c .before .before .before .before .before .before .if3 .a) (λ x. x .next) (λ x. x .word) (c .before .before .before .before .before .before .before .before .leaf .ensures) (c .before .before .before .before .before .before .if3 .came) (λ w. rw (w .3) (rw (w .2 .ensures .0, w .2 .ensures .1) (w .1 .ensures))) (λ w. (w .0 .left, w .1))) (operand _ _ _ _ (c .before .before .before .if4 .b) (λ x. x .next) (λ x. x .word) (c .before .before .before .before .before .leaf2 .ensures) (c .before .before .before .if4 .came) (λ w. rw (w .3) (rw (w .2 .ensures .0, w .2 .ensures .1) (w .1 .ensures))) (λ w. (w .0 .left, w .1))) (c .before .if6 .taken)))
+    (λ c κs. let x = operand _ _ _ _ (c .before .before .before .before .before .if3 .a) (λ x. x .next) (λ x. x .word) (c .before .before .before .before .before .before .before .leaf .ensures) (c .before .before .before .before .before .if3 .came) (λ w. rw (w .3) (rw (w .2 .ensures .0, w .2 .ensures .1) (w .1 .ensures))) (λ w. (w .0 .left, w .1)) in let y = operand _ _ _ _ (c .before .before .if4 .b) (λ x. x .next) (λ x. x .word) (c .before .before .before .before .leaf2 .ensures) (c .before .before .if4 .came) (λ w. rw (w .3) (rw (w .2 .ensures .0, w .2 .ensures .1) (w .1 .ensures))) (λ w. (w .0 .left, w .1)) in omega (arith, x .skips .low, y .skips .low, y .skips .high))
+    (λ c κs. let x = operand _ _ _ _ (c .before .before .before .before .before .before .before .before .if3 .a) (λ x. x .next) (λ x. x .word) (c .before .before .before .before .before .before .before .before .before .before .leaf .ensures) (c .before .before .before .before .before .before .before .before .if3 .came) (λ w. rw (w .3) (rw (w .2 .ensures .0, w .2 .ensures .1) (w .1 .ensures))) (λ w. (w .0 .left, w .1)) in let y = operand _ _ _ _ (c .before .before .before .before .before .if4 .b) (λ x. x .next) (λ x. x .word) (c .before .before .before .before .before .before .before .leaf2 .ensures) (c .before .before .before .before .before .if4 .came) (λ w. rw (w .3) (rw (w .2 .ensures .0, w .2 .ensures .1) (w .1 .ensures))) (λ w. (w .0 .left, w .1)) in omega (arith, x .skips .low, y .skips .low, y .skips .high))
+    (λ c κs. omega arith)
+    (λ c κs. let z = operand _ _ _ _ (c .before .if7 .t) (λ x. x .next) (λ x. x .word) (c .before .before .before .leaf3 .ensures) (c .before .if7 .came) (λ w. rw (w .3) (rw (w .2 .ensures .0, w .2 .ensures .1) (w .1 .ensures))) (λ w. (w .0 .left, w .1)) in omega (arith, z .skips .high))
+    (λ c. search needs)
+    (λ c κs. omega arith)
+    (λ c. search needs)
+    (λ c κs. omega arith)
     (λ c. search needs)
     (λ c κs. omega arith)
     (λ c κs. omega arith)
+    (λ c. search needs)
     (λ c κs. omega arith)
+    (λ c. search needs)
+    (λ c κs. omega arith)
+    (λ c κs. let x = sub-condition _ _ _ _ (c .before .before .before .if9 .a) (c .before .before .before .before .simple .ensures) (c .before .before .before .if9 .came) (λ w. rw (w .2) (w .1 .ensures)) (λ w. (w .0 .left, w .1)) in omega (arith, x .skips .low, x .skips .high))
+    (λ c κs. let x = sub-condition _ _ _ _ (c .before .before .before .if9 .a) (c .before .before .before .before .simple .ensures) (c .before .before .before .if9 .came) (λ w. rw (w .2) (w .1 .ensures)) (λ w. (w .0 .left, w .1)) in omega (arith, x .skips .high))
     (λ c κs. omega (arith, c .pass-condition .ensures .high))
-    (λ c. search needs)
-    (λ c κs. omega arith)
-    (λ c κs. omega arith)
+    (λ c κs. let x = sub-condition _ _ _ _ (c .before .before .before .if9 .a) (c .before .before .before .before .simple .ensures) (c .before .before .before .if9 .came) (λ w. rw (w .2) (w .1 .ensures)) (λ w. (w .0 .left, w .1)) in omega (arith, x .skips .high))
     (λ c κs. omega (arith, c .pass-condition2 .ensures .high))
-    (λ c κs. omega arith)
-    (λ c. search needs)
-    (λ c κs. omega arith)
-    (λ c. search needs)
-    (λ c κs. omega arith)
-    (λ c κs. omega arith)
-    (λ c κs. let x = operand _ _ _ _ (c .if5 .a) (λ x. x .next) (λ x. x .word) (c .before .before .leaf .ensures) (c .if5 .came) (λ w. rw (w .3) (rw (w .2 .ensures .0, w .2 .ensures .1) (w .1 .ensures))) (λ w. (w .0 .left, w .1)) in omega (arith, x .skips .low, x .skips .high))
-    (λ c κs. let x = operand _ _ _ _ (c .before .before .before .if5 .a) (λ x. x .next) (λ x. x .word) (c .before .before .before .before .before .leaf .ensures) (c .before .before .before .if5 .came) (λ w. rw (w .3) (rw (w .2 .ensures .0, w .2 .ensures .1) (w .1 .ensures))) (λ w. (w .0 .left, w .1)) in omega (arith, x .skips .low, x .skips .high))
-    (λ c κs. omega arith)
-    (λ c κs. let y = operand _ _ _ _ (c .before .if6 .b) (λ x. x .next) (λ x. x .word) (c .before .before .before .leaf2 .ensures) (c .before .if6 .came) (λ w. rw (w .3) (rw (w .2 .ensures .0, w .2 .ensures .1) (w .1 .ensures))) (λ w. (w .0 .left, w .1)) in omega (arith, y .skips .high))
-    (λ c. as-judged _ _ _ _ _ _ (c .less .ensures) (evaluates-less _ _ _ (c .before .before .before .before .before .before .before .before .before .before .before .if1 .taken) _ _ _ _ (operand _ _ _ _ (c .before .before .before .before .before .if5 .a) (λ x. x .next) (λ x. x .word) (c .before .before .before .before .before .before .before .leaf .ensures) (c .before .before .before .before .before .if5 .came) (λ w. rw (w .3) (rw (w .2 .ensures .0, w .2 .ensures .1) (w .1 .ensures))) (λ w. (w .0 .left, w .1))) (operand _ _ _ _ (c .before .before .if6 .b) (λ x. x .next) (λ x. x .word) (c .before .before .before .before .leaf2 .ensures) (c .before .before .if6 .came) (λ w. rw (w .3) (rw (w .2 .ensures .0, w .2 .ensures .1) (w .1 .ensures))) (λ w. (w .0 .left, w .1))) (c .before .if7 .taken)))
-    (λ c κs. let y = operand _ _ _ _ (c .before .before .if6 .b) (λ x. x .next) (λ x. x .word) (c .before .before .before .before .leaf2 .ensures) (c .before .before .if6 .came) (λ w. rw (w .3) (rw (w .2 .ensures .0, w .2 .ensures .1) (w .1 .ensures))) (λ w. (w .0 .left, w .1)) in omega (arith, y .skips .high))
-    (λ c. as-judged _ _ _ _ _ _ (c .equal .ensures) (evaluates-equal _ _ _ (c .before .before .before .before .before .before .before .before .before .before .before .before .if1 .taken) _ _ _ _ (operand _ _ _ _ (c .before .before .before .before .before .before .if5 .a) (λ x. x .next) (λ x. x .word) (c .before .before .before .before .before .before .before .before .leaf .ensures) (c .before .before .before .before .before .before .if5 .came) (λ w. rw (w .3) (rw (w .2 .ensures .0, w .2 .ensures .1) (w .1 .ensures))) (λ w. (w .0 .left, w .1))) (operand _ _ _ _ (c .before .before .before .if6 .b) (λ x. x .next) (λ x. x .word) (c .before .before .before .before .before .leaf2 .ensures) (c .before .before .before .if6 .came) (λ w. rw (w .3) (rw (w .2 .ensures .0, w .2 .ensures .1) (w .1 .ensures))) (λ w. (w .0 .left, w .1))) (c .before .if8 .taken)))
-    (λ c κs. let x = operand _ _ _ _ (c .before .before .before .before .before .if5 .a) (λ x. x .next) (λ x. x .word) (c .before .before .before .before .before .before .before .leaf .ensures) (c .before .before .before .before .before .if5 .came) (λ w. rw (w .3) (rw (w .2 .ensures .0, w .2 .ensures .1) (w .1 .ensures))) (λ w. (w .0 .left, w .1)) in let y = operand _ _ _ _ (c .before .before .if6 .b) (λ x. x .next) (λ x. x .word) (c .before .before .before .before .leaf2 .ensures) (c .before .before .if6 .came) (λ w. rw (w .3) (rw (w .2 .ensures .0, w .2 .ensures .1) (w .1 .ensures))) (λ w. (w .0 .left, w .1)) in omega (arith, x .skips .low, y .skips .low, y .skips .high))
-    (λ c κs. let x = operand _ _ _ _ (c .before .before .before .before .before .before .before .before .if5 .a) (λ x. x .next) (λ x. x .word) (c .before .before .before .before .before .before .before .before .before .before .leaf .ensures) (c .before .before .before .before .before .before .before .before .if5 .came) (λ w. rw (w .3) (rw (w .2 .ensures .0, w .2 .ensures .1) (w .1 .ensures))) (λ w. (w .0 .left, w .1)) in let y = operand _ _ _ _ (c .before .before .before .before .before .if6 .b) (λ x. x .next) (λ x. x .word) (c .before .before .before .before .before .before .before .leaf2 .ensures) (c .before .before .before .before .before .if6 .came) (λ w. rw (w .3) (rw (w .2 .ensures .0, w .2 .ensures .1) (w .1 .ensures))) (λ w. (w .0 .left, w .1)) in omega (arith, x .skips .low, y .skips .low, y .skips .high))
-    (λ c κs. omega arith)
-    (λ c κs. let z = operand _ _ _ _ (c .if9 .t) (λ x. x .next) (λ x. x .word) (c .before .before .leaf3 .ensures) (c .if9 .came) (λ w. rw (w .3) (rw (w .2 .ensures .0, w .2 .ensures .1) (w .1 .ensures))) (λ w. (w .0 .left, w .1)) in omega (arith, z .skips .high))
-    (λ c. search needs)
-    (λ c κs. omega arith)
-    (λ c. as-judged _ _ _ _ _ _ (c .judged2 .ensures) (evaluates-true _ _ _ (c .before .before .before .if1 .taken) (c .before .match .keys1)))
-    (λ c. as-judged _ _ _ _ _ _ (c .negate .ensures) (evaluates-not _ _ _ (c .before .before .before .before .if1 .taken) _ _ (c .before .before .match .keys2) (c .before .condition .ensures)))
-    (λ c. and-right _ _ _ (c .before .before .before .before .before .if1 .taken) _ _ _ (c .before .before .condition2 .ensures) _ (c .before .before .before .match .keys3) (c .before .if2 .taken) (c .condition3 .ensures))
-    (λ c. as-judged _ _ _ _ _ _ (c .judged3 .ensures) (and-left _ _ _ (c .before .before .before .before .before .before .if1 .taken) _ _ _ (c .before .before .before .condition2 .ensures) (c .before .before .before .before .match .keys3) (c .before .before .if2 .left) (c .before .pass-condition .ensures)))
-    (λ c. as-judged _ _ _ _ _ _ (c .judged4 .ensures) (or-left _ _ _ (c .before .before .before .before .before .before .if1 .taken) _ _ _ (c .before .before .before .condition4 .ensures) (c .before .before .before .before .match .keys4) (c .before .before .if3 .taken) (c .before .pass-condition2 .ensures)))
-    (λ c. or-right _ _ _ (c .before .before .before .before .before .if1 .taken) _ _ _ (c .before .before .condition4 .ensures) _ (c .before .before .before .match .keys4) (c .before .if3 .left) (c .condition5 .ensures))
-    (λ c. as-judged _ _ _ _ _ _ (c .within .ensures) (evaluates-within _ _ _ (c .before .before .before .before .before .before .before .before .before .before .before .before .before .before .before .if1 .taken) _ _ _ _ (operand _ _ _ _ (c .before .before .before .before .before .before .before .before .before .if5 .a) (λ x. x .next) (λ x. x .word) (c .before .before .before .before .before .before .before .before .before .before .before .leaf .ensures) (c .before .before .before .before .before .before .before .before .before .if5 .came) (λ w. rw (w .3) (rw (w .2 .ensures .0, w .2 .ensures .1) (w .1 .ensures))) (λ w. (w .0 .left, w .1))) (operand _ _ _ _ (c .before .before .before .before .before .before .if6 .b) (λ x. x .next) (λ x. x .word) (c .before .before .before .before .before .before .before .before .leaf2 .ensures) (c .before .before .before .before .before .before .if6 .came) (λ w. rw (w .3) (rw (w .2 .ensures .0, w .2 .ensures .1) (w .1 .ensures))) (λ w. (w .0 .left, w .1))) _ _ (omega (arith, c .before .before .before .before .before .before .before .before .before .before .before .before .before .match .rest .0 .0 .0 .1, c .before .before .before .before .before .before .before .before .before .before .before .before .before .match .rest .0 .0 .1, c .before .before .before .before .before .before .before .before .before .before .before .before .before .match .rest .0 .1, c .before .before .before .before .before .before .before .before .before .before .before .before .before .match .rest .1, c .before .before .before .before .before .if7 .left, c .before .before .before .before .if8 .left, c .before .before .before .before .before .before .before .before .before .before .before .before .if4 .taken)) (operand _ _ _ _ (c .before .if9 .t) (λ x. x .next) (λ x. x .word) (c .before .before .before .leaf3 .ensures) (c .before .if9 .came) (λ w. rw (w .3) (rw (w .2 .ensures .0, w .2 .ensures .1) (w .1 .ensures))) (λ w. (w .0 .left, w .1)))))
-    (λ c. as-judged _ _ _ _ _ _ (c .judged5 .ensures) (no-condition-there _ _ _ (c .before .before .before .before .if1 .taken) (no-condition _ (c .before .before .match .rest .0 .0 .0 .1) (c .before .before .match .rest .0 .0 .1) (c .before .before .match .rest .0 .1) (c .before .before .match .rest .1) (λ e. omega arith) (λ e. omega arith) (λ e. omega arith)))))
+    (λ c κs. let x = sub-condition _ _ _ _ (c .before .before .before .if9 .a) (c .before .before .before .before .simple .ensures) (c .before .before .before .if9 .came) (λ w. rw (w .2) (w .1 .ensures)) (λ w. (w .0 .left, w .1)) in omega (arith, x .skips .low, x .skips .high))
+    (λ c. as-judged _ _ _ _ _ _ (c .within .ensures) (evaluates-within _ _ _ (c .before .before .before .before .before .before .before .before .before .before .before .before .before .before .before .if1 .taken) _ _ _ _ (operand _ _ _ _ (c .before .before .before .before .before .before .before .before .before .before .if3 .a) (λ x. x .next) (λ x. x .word) (c .before .before .before .before .before .before .before .before .before .before .before .before .leaf .ensures) (c .before .before .before .before .before .before .before .before .before .before .if3 .came) (λ w. rw (w .3) (rw (w .2 .ensures .0, w .2 .ensures .1) (w .1 .ensures))) (λ w. (w .0 .left, w .1))) (operand _ _ _ _ (c .before .before .before .before .before .before .before .if4 .b) (λ x. x .next) (λ x. x .word) (c .before .before .before .before .before .before .before .before .before .leaf2 .ensures) (c .before .before .before .before .before .before .before .if4 .came) (λ w. rw (w .3) (rw (w .2 .ensures .0, w .2 .ensures .1) (w .1 .ensures))) (λ w. (w .0 .left, w .1))) _ _ (c .before .if8 .taken) (operand _ _ _ _ (c .before .before .if7 .t) (λ x. x .next) (λ x. x .word) (c .before .before .before .before .leaf3 .ensures) (c .before .before .if7 .came) (λ w. rw (w .3) (rw (w .2 .ensures .0, w .2 .ensures .1) (w .1 .ensures))) (λ w. (w .0 .left, w .1)))))
+    (λ c. as-judged _ _ _ _ _ _ (c .judged2 .ensures) (no-condition-there _ _ _ (c .before .before .before .before .before .before .before .before .before .before .before .before .before .before .before .if1 .taken) (no-condition _ (λ e. omega arith) (λ e. omega arith) (λ e. omega arith) (λ e. omega arith) (c .before .before .before .before .before .before .if5 .left) (c .before .before .before .before .before .if6 .left) (c .before .if8 .left))))
+    (λ c. as-judged _ _ _ _ _ _ (c .judged3 .ensures) (evaluates-true _ _ _ (c .before .before .before .before .if1 .taken) (c .before .match .keys1)))
+    (λ c. as-judged _ _ _ _ _ _ (c .negate .ensures) (evaluates-not _ _ _ (c .before .before .before .before .before .if1 .taken) _ _ (c .before .before .match .keys2) (c .before .condition .ensures)))
+    (λ c. and-right _ _ _ (c .before .before .before .before .before .before .before .before .before .if1 .taken) _ _ _ (sub-condition _ _ _ _ (c .before .before .before .before .if9 .a) (c .before .before .before .before .before .simple .ensures) (c .before .before .before .before .if9 .came) (λ w. rw (w .2) (w .1 .ensures)) (λ w. (w .0 .left, w .1))) _ (c .before .before .before .if10 .taken) (c .before .if11 .taken) (c .condition3 .ensures))
+    (λ c. as-judged _ _ _ _ _ _ (c .judged4 .ensures) (and-left _ _ _ (c .before .before .before .before .before .before .before .before .before .before .if1 .taken) _ _ _ (sub-condition _ _ _ _ (c .before .before .before .before .before .if9 .a) (c .before .before .before .before .before .before .simple .ensures) (c .before .before .before .before .before .if9 .came) (λ w. rw (w .2) (w .1 .ensures)) (λ w. (w .0 .left, w .1))) (c .before .before .before .before .if10 .taken) (c .before .before .if11 .left) (c .before .pass-condition .ensures)))
+    (λ c. as-judged _ _ _ _ _ _ (c .judged5 .ensures) (or-left _ _ _ (c .before .before .before .before .before .before .before .before .before .before .if1 .taken) _ _ _ (sub-condition _ _ _ _ (c .before .before .before .before .before .if9 .a) (c .before .before .before .before .before .before .simple .ensures) (c .before .before .before .before .before .if9 .came) (λ w. rw (w .2) (w .1 .ensures)) (λ w. (w .0 .left, w .1))) (omega (arith, c .before .before .before .before .before .before .before .match .rest .0 .1, c .before .before .before .before .before .before .before .match .rest .1, c .before .before .before .before .if10 .left)) (c .before .before .if12 .taken) (c .before .pass-condition2 .ensures)))
+    (λ c. or-right _ _ _ (c .before .before .before .before .before .before .before .before .before .if1 .taken) _ _ _ (sub-condition _ _ _ _ (c .before .before .before .before .if9 .a) (c .before .before .before .before .before .simple .ensures) (c .before .before .before .before .if9 .came) (λ w. rw (w .2) (w .1 .ensures)) (λ w. (w .0 .left, w .1))) _ (omega (arith, c .before .before .before .before .before .before .match .rest .0 .1, c .before .before .before .before .before .before .match .rest .1, c .before .before .before .if10 .left)) (c .before .if12 .left) (c .condition4 .ensures)))
     λ t. value-lts.spec (
       packed-reads.Asked,
       packed-reads.Learnt,
