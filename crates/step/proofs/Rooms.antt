@@ -3,12 +3,12 @@ use mathlib.Core.Path.{_≡_, refl, sym, ap, ap₂, _∙_}
 use mathlib.Core.Bool.{Bool, true, _&&_}
 use mathlib.Core.Option.{Option, none, some}
 use mathlib.Core.List.{List, [], _∷_, _++_, map, append-nil, map-append, map-map}
-use Prim.Native.Nat.{ℕ, zero, suc, _≤_}
+use Prim.Native.Nat.{ℕ, zero, suc, _+_, _≤_, _<_}
 use native.Mathlib.Numerals.{add-one}
 use native.Mathlib.Omega.{arith}
 use lib.Dec.{eqb}
 use lib.ListN.{length, getD, set, take, drop, length-append, length-map}
-use lib.Seq.{sets, append-snoc}
+use lib.Seq.{sets, append-snoc, take-suc, take-all, length-take-le}
 use Rattle.sheet.specs.Table.{every, fit}
 use Rattle.sheet.proofs.Tables.{and-parts, and-both}
 use Rattle.sheet.proofs.Tests.{and-iff, eqb-iff}
@@ -55,6 +55,13 @@ length-fit zero d l = refl
 length-fit (suc n) d [] = ap suc (length-fit n d [])
 length-fit (suc n) d (x ∷ l) = ap suc (length-fit n d l)
 
+pub fit-all : {A : Type 0} (d : A) (n : ℕ) (l : List A) → length l ≡ n → fit n d l ≡ l
+unfolding fit
+fit-all d zero [] h = refl
+fit-all d zero (x ∷ l) h = absurd (omega arith)
+fit-all d (suc n) [] h = absurd (omega arith)
+fit-all {A} d (suc n) (x ∷ l) h = ap (λ (m : List A). x ∷ m) (fit-all d n l (omega arith))
+
 -- one more element behind those of an array, and more of them; past the end nothing is stored
 module _ {A : Type 0} (d : A) where
   pub set-fit : (n : ℕ) (l : List A) (x : A) → set (fit n d l) (length l) x ≡ fit n d (l ++ x ∷ [])
@@ -74,6 +81,26 @@ pub row-more : {A B : Type 0} (f : B → A) (d : A) (size : ℕ) (row : List A) 
 row-more f d size row l x n y e g k =
     let there : n ≡ length (map f l) = g ∙ sym (length-map l f) in
     rw (← e, there, k) (set-fit d size (map f l) (f x) ∙ ap (fit size d) (sym (map-append f l (x ∷ []))))
+
+-- An array of what is made of each element of another, i of them made.
+pub record Made {A B : Type 0} (f : B → A) (d : A) (size : ℕ) (l : List B) (row : List A) (i : ℕ) : Type 0 where
+  pub same : fit size d (map f (take i l)) ≡ row
+  pub low : i ≤ size
+
+module _ {A B : Type 0} (f : B → A) (d : A) (size : ℕ) (l : List B) where
+  pub made-start : Made f d size l (fit size d []) 0
+  made-start = record { same = refl; low = omega arith }
+
+  module _ (row : List A) (i : ℕ) (g : Made f d size l row i) where
+    pub made-next : (e : B) → i < size → length l ≡ size → Made f d size l (set row i (f (getD l i e))) (i + 1)
+    made-next e h long =
+        let more : take (i + 1) l ≡ take i l ++ getD l i e ∷ [] = rw (add-one i) (take-suc l i e (omega arith)) in
+        record { same = ap (λ (m : List B). fit size d (map f m)) more ∙ sym (row-more f d size row (take i l) (getD l i e) i (f (getD l i e)) (g .same) (sym (length-take-le i l (omega arith))) refl); low = omega arith }
+
+    pub made-end : length l ≡ size → size ≤ i → row ≡ map f l
+    made-end long h =
+        let all : take i l ≡ l = take-all i l (omega arith) in
+        sym (g .same) ∙ ap (λ (m : List B). fit size d (map f m)) all ∙ fit-all d size (map f l) (length-map l f ∙ long)
 
 -- What takes each element apart and puts it together leaves a list as it is; what holds of all elements holds of some of them.
 module _ {C : Type 0} (p : C → Bool) where

@@ -1,8 +1,8 @@
 -- Tests on what a loop has yet to see of a list, and on what it has seen. Assumes nothing.
 use mathlib.Core.Path.{_≡_, refl, sym, ap, _∙_}
 use mathlib.Core.Bool.{Bool, true, false, not, cond, _&&_, false≢true}
-use mathlib.Core.List.{List, [], _∷_, _++_, map, map-append}
-use Prim.Native.Nat.{ℕ, suc, _+_, _≤_, _<_}
+use mathlib.Core.List.{List, [], _∷_, _++_, map, map-append, map-id}
+use Prim.Native.Nat.{ℕ, zero, suc, _+_, _≤_, _<_}
 use native.Mathlib.Numerals.{add-one}
 use native.Mathlib.Omega.{arith}
 use borrow.Author.Tests.{lt-ltb, le-ltb, eq-eqb}
@@ -123,6 +123,15 @@ module _ {A : Type 0} (f : A → ℕ) (row : List A) (opened i : ℕ) (g : disti
         let low = place-low (λ x. eqb (f x) (f (getD row i d))) (take i row) in
         let long = length-take-le i row (omega arith) in
         distinct-fails f (take opened row) i g d there (found true (lt-ltb place i (omega arith)))
+
+-- by the numbers alone
+take-map : {A B : Type 0} (n : ℕ) (f : A → B) (l : List A) → take n (map f l) ≡ map f (take n l)
+take-map zero f l = refl
+take-map (suc n) f [] = refl
+take-map {B} (suc n) f (x ∷ l) = ap (λ (m : List B). f x ∷ m) (take-map n f l)
+
+pub distinct-numbers : {A : Type 0} (f : A → ℕ) (l : List A) (n : ℕ) (numbers : List ℕ) → numbers ≡ map f l → distinct (map (λ (m : ℕ). m) (take n numbers)) ≡ distinct (map f (take n l))
+distinct-numbers f l n numbers e = ap distinct (map-id (take n numbers) ∙ ap (take n) e ∙ take-map n f l)
 
 -- An array whose places are zeros from one on, by what a test of them answers.
 pub padded-is : (size n : ℕ) (l : List ℕ) (r b : Bool) → (r ≡ clear n l) × (length l ≡ size) → r ≡ b → padded size n l ≡ b

@@ -3,10 +3,12 @@
 ghost use mathlib.Core.Path.{_≡_};
 ghost use mathlib.Core.Bool.{not};
 ghost use mathlib.Core.List.{map};
+ghost use Prim.Native.Nat.{_≤_};
 ghost use lib.Dec.{eqb};
 ghost use lib.ListN.{length, set, take, drop};
 ghost use Rattle.sheet.specs.Table.{every, fit};
 ghost use Rattle.step.specs.Lists.{keep, distinct};
+ghost use Rattle.step.specs.Walk.{placeOf};
 ghost use Rattle.step.specs.Padding.{zeroCall, clear, padded, isZeroCall};
 use crate::Call;
 
@@ -100,14 +102,18 @@ fn is_no_call(call: Call) -> bool
     (call.number == 0) & ((call.unit == 0) & clear)
 }
 
-// Whether every call keeps zeros from a value's number on.
-pub fn kept_clear(calls: [Call; 16], from: usize) -> bool
-    ensures { λ r. ⌜ r ≡ every (λ c. padded 8 from (c .kept)) calls ⌝ }
+// Whether the first `opened` calls keep zeros from a value's number on.
+pub fn kept_clear(calls: [Call; 16], opened: usize, from: usize) -> bool
+    ensures { λ r. ⌜ r ≡ every (λ c. padded 8 from (c .kept)) (take opened calls) ⌝ }
 {
     let mut i = 0;
-    while i < 16 {
-        if keeps_clear(calls[i], from) {} else {
-            return false;
+    while i < opened {
+        if i < 16 {
+            if keeps_clear(calls[i], from) {} else {
+                return false;
+            }
+        } else {
+            return true;
         }
         i += 1;
     }
@@ -132,11 +138,32 @@ pub fn calls_clear(calls: [Call; 16], from: usize) -> bool
 pub fn numbers_distinct(calls: [Call; 16], opened: usize) -> bool
     ensures { λ r. ⌜ r ≡ distinct (map (λ c. c .number) (take opened calls)) ⌝ }
 {
+    let numbers = numbers_of(calls);
+    all_distinct(&numbers[..], opened)
+}
+
+// The numbers of the calls: they are looked through without the rest.
+fn numbers_of(calls: [Call; 16]) -> [u32; 16]
+    ensures { λ r. ⌜ r ≡ map (λ c. c .number) calls ⌝ }
+{
+    let mut out = [0u32; 16];
     let mut i = 0;
-    while i < opened {
-        if i < 16 {
-            let c = calls[i];
-            if crate::call_place(calls, i, c.number) == i {} else {
+    while i < 16 {
+        let c = calls[i];
+        out[i] = c.number as u32;
+        i += 1;
+    }
+    out
+}
+
+// Whether the first n numbers are different.
+fn all_distinct(numbers: &[u32], n: usize) -> bool
+    ensures { λ r. ⌜ r ≡ distinct (map (λ m. m) (take n (now (numbers .entry)))) ⌝ }
+{
+    let mut i = 0;
+    while i < n {
+        if i < numbers.len() {
+            if place_in(numbers, i, numbers[i]) == i {} else {
                 return false;
             }
         } else {
@@ -145,4 +172,19 @@ pub fn numbers_distinct(calls: [Call; 16], opened: usize) -> bool
         i += 1;
     }
     true
+}
+
+// Where a number stands among the first n, or n.
+fn place_in(numbers: &[u32], n: usize, number: u32) -> usize
+    requires { ⌜ n ≤ length (now numbers) ⌝ }
+    ensures { λ r. ⌜ r ≡ placeOf (λ m. eqb m number) (take n (now (numbers .entry))) ⌝ }
+{
+    let mut i = 0;
+    while i < n {
+        if numbers[i] == number {
+            return i;
+        }
+        i += 1;
+    }
+    i
 }
