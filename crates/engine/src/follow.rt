@@ -1,10 +1,12 @@
-// Following a log in place, record by record: each event's values are read straight off the log.
+// Following a log in place, record by record: each event's values are read off the log into the same
+// eight words, those behind them staying zero.
 
 ghost use mathlib.Core.Path.{_≡_};
 ghost use Prim.Native.Nat.{_+_, _*_, _≤_};
 ghost use lib.ListN.{length};
+ghost use lib.Seq.{sets};
 ghost use Rattle.sheet.specs.Bytes.{word};
-ghost use Rattle.sheet.specs.Table.{table, fit};
+ghost use Rattle.sheet.specs.Table.{table};
 ghost use Rattle.sheet.specs.Decode.{wordForm};
 ghost use Rattle.sheet.specs.Log.{logReading, eventsOf};
 ghost use Rattle.step.specs.Answers.{ranAnswer};
@@ -29,11 +31,12 @@ pub(crate) fn follow(s: &[u8], plan: &[u32; PLAN], log: &[u8], programs: u8) -> 
     let mut run = started(s);
     let mut row = [0u32; 256];
     let mut variables = initial(s);
+    let mut values = [0u32; 8];
     let mut i: u32 = 0;
     let mut at = 6;
     while at < end {
         let given = given_at(log, at, programs);
-        let values = values_at(log, at + 4, count);
+        read_values(log, at + 4, count, &mut values);
         let next = advance(s, plan, run, &mut row, &mut variables, given, &values);
         i += 1;
         if next.answer == 0 {} else {
@@ -87,20 +90,18 @@ fn given_at(log: &[u8], at: usize, programs: u8) -> Given
     }
 }
 
-// The n values from a place on, zeros behind them.
-fn values_at(log: &[u8], at: usize, n: usize) -> [u32; 8]
+// Reads the n values from a place on; the words behind them stay as they were.
+fn read_values(log: &[u8], at: usize, n: usize, values: &mut [u32; 8])
     requires { ⌜ (at + 4 * n ≤ length (now log)) × (n ≤ 8) ⌝ }
-    ensures { λ r. ⌜ r ≡ fit 8 0 (table wordForm n (now (log .entry)) at) ⌝ }
+    ensures { λ _. ⌜ now (values .exit) ≡ sets (now (values .entry)) 0 (table wordForm n (now (log .entry)) at) ⌝ }
 {
-    let mut out = [0u32; 8];
     let mut i = 0;
     let mut here = at;
     while i < n {
-        out[i] = word_at(log, here);
+        values[i] = word_at(log, here);
         here += 4;
         i += 1;
     }
-    out
 }
 
 // Four bytes, the highest first.
