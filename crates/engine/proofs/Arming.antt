@@ -20,11 +20,11 @@ module _ (whole old : List ℕ) (at : ℕ) where
 
   module _ (rest row : List ℕ) (count to i : ℕ) (g : Storing whole old at rest row count to i) where
     module _ (x : ℕ) (rest₁ : List ℕ) (here : rest ≡ x ∷ rest₁) (n : ℕ) where
-      pub storing-store : count < 4 → Storing whole old at rest₁ (set row to x) (count + 1) (to + 1) (i + 1 + n)
-      storing-store h =
+      pub storing-store : (y : ℕ) → y ≡ x → count < 4 → Storing whole old at rest₁ (set row to y) (count + 1) (to + 1) (i + 1 + n)
+      storing-store y e h =
           let left : 4 - count ≡ suc (4 - (count + 1)) = omega arith in
           record {
-            same = rw (add-one to) (rw (here, left) at (g .same));
+            same = rw (add-one to, e) (rw (here, left) at (g .same));
             many = omega (arith, rw here at (g .many));
             near = omega (arith, g .near);
             low = omega (arith, g .low);

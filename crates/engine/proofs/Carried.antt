@@ -3,13 +3,12 @@ use mathlib.Core.Path.{_≡_, refl, sym, ap, subst, _∙_}
 use mathlib.Core.Bool.{Bool, true, false, cond, _&&_}
 use mathlib.Core.Option.{Option, none, some}
 use mathlib.Core.List.{List, [], _∷_, _++_, map}
-use Prim.Native.Nat.{ℕ, _+_, _*_, _/_, _%_, _^_, _≤_, _<_}
-use native.Mathlib.Nat.{mod-eq-of-lt, mod-lt, zero-mul}
+use Prim.Native.Nat.{ℕ, _+_, _*_, _≤_, _<_}
+use native.Mathlib.Nat.{mod-eq-of-lt}
 use native.Mathlib.Omega.{arith}
 use borrow.Author.Tests.{eqb-true, eqb-false, ne-eqb, eq-eqb, lt-ltb}
 use lib.Dec.{eqb}
 use lib.ListN.{length, getD, take, drop, take-append-drop, length-take, length-map, List·getD-map}
-use lib.Pow.{pow-pos, pow-mono, split}
 use Rattle.condition.specs.Meaning.{environment}
 use Rattle.sheet.specs.declared.Transition.{Transition}
 use Rattle.sheet.specs.Parts.{Common}
@@ -73,17 +72,6 @@ key-same f u κ m v c hf hu hκ hm hv hc = rw (key-plain f u κ hf hu hκ, cell-
     go true x true y false z = ne-eqb _ _ (λ (e : 2 * (16 * f + u) + κ ≡ 2 * (16 * m + v) + c). eqb-false u v z (omega (arith, eqb-true f m x, eqb-true κ c y)))
     go true x false y d z = ne-eqb _ _ (λ (e : 2 * (16 * f + u) + κ ≡ 2 * (16 * m + v) + c). eqb-false κ c y (omega (arith, eqb-true f m x)))
     go false x b y d z = ne-eqb _ _ (λ (e : 2 * (16 * f + u) + κ ≡ 2 * (16 * m + v) + c). eqb-false f m x (omega arith))
-
--- the bits of the bad states are of two bytes
-pub bad-fits : {T R : Type 0} {F : Layout T R} {s : List ℕ} (a : Accepted F s) → commonOf s .bad % 65536 ≡ commonOf s .bad
-bad-fits {s} a =
-    let bad = commonOf s .bad in
-    let q = commonOf s .states in
-    let pow : 2 ^ q ≤ 2 ^ 16 = pow-mono (bounds a .states) in
-    let none : bad / 2 ^ q * 2 ^ q ≡ 0 = ap (λ (n : ℕ). n * 2 ^ q) (bounds a .bad) ∙ zero-mul (2 ^ q) in
-    let low : bad % 2 ^ q < 2 ^ q = mod-lt bad (pow-pos q) in
-    let small : bad < 65536 = omega (arith, split bad q, none, low, pow) in
-    mod-eq-of-lt small
 
 module _ {T R : Type 0} {F : Layout T R} {s : List ℕ} (a : Accepted F s) (short : length s ≤ 65535) (fewConditions : F .conditions (wide s) ≤ 161) (fewActions : F .actions ≤ 161)
     (kind : ℕ) {A : Type 0} (base : A → Transition) (d : A) (p : List ℕ) (l : List A) (few : length l ≤ 96) (good : (i : ℕ) → i < length l → GoodTransition (commonOf s) (base (getD l i d))) (h : Heads (commonOf s) kind p) (x : Moves s (conditionPlaces s) (actionPlaces s) (map base l) p)

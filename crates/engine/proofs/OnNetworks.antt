@@ -3,7 +3,7 @@ use mathlib.Core.Path.{_≡_, refl, sym, ap, _∙_}
 use mathlib.Core.Bool.{Bool, true, cond}
 use mathlib.Core.Option.{Option, none, some}
 use mathlib.Core.List.{List, map}
-use Prim.Native.Nat.{ℕ, _+_, _*_, _%_, _≤_}
+use Prim.Native.Nat.{ℕ, _+_, _*_, _≤_}
 use native.Mathlib.Omega.{arith}
 use borrow.Author.Tests.{lt-ltb}
 use lib.Dec.{eqb, ltb}
@@ -36,7 +36,7 @@ use Rattle.engine.specs.Showing.{Fits, foundBy, Carries}
 use Rattle.engine.proofs.Numbered.{Both, keep-images}
 use Rattle.engine.proofs.Texts.{text-holds}
 use Rattle.engine.proofs.Planned.{NetworkPlanned, network-planned}
-use Rattle.engine.proofs.Carried.{first-image, bad-fits, guard-holds, found-both, moves-main, moves-variables}
+use Rattle.engine.proofs.Carried.{first-image, guard-holds, found-both, moves-main, moves-variables}
 
 abbrev noPair : Pair
 noPair = record { condition = 0; template = 0 }
@@ -49,7 +49,7 @@ module _ {s : List ℕ} (a : Accepted networkLayout s) (short : length s ≤ 655
   p = networkPlan s
 
   y : NetworkPlanned s (conditionPlaces s) (actionPlaces s) (placesOf networkLayout s .last) (transitionsOf networkLayout s) (lastOf networkLayout s) (networkPlan s)
-  y = network-planned a
+  y = network-planned a short
 
   abbrev qs : List Paired
   qs = transitionsOf networkLayout s
@@ -138,7 +138,7 @@ module _ {s : List ℕ} (a : Accepted networkLayout s) (short : length s ≤ 655
         units = y .heads .units;
         programs = y .heads .programs;
         monitors = y .heads .monitors;
-        bad = ap (λ (n : ℕ). n % 65536) (y .heads .bad) ∙ bad-fits a;
+        bad = y .heads .bad;
         fewPrograms = bounds a .programs;
         fewLast = bounds a .last;
         moves = λ k e f. moves-main a short (network-few (wide s)) (omega arith) 1 (λ (u : Paired). u .base) noPaired p qs (bounds a .transitions) (λ i h. network-transition a i noPaired h) (y .heads) (y .moves) k e f ts (first-image (enabled C k e) (λ (u : Paired). u .base) qs);

@@ -3,7 +3,7 @@ use mathlib.Core.Path.{_≡_, refl, sym, ap, _∙_}
 use mathlib.Core.Logic.{inl}
 use mathlib.Core.Bool.{Bool, true, false, cond, _&&_, false≢true}
 use mathlib.Core.List.{List, [], _∷_, map, map-id}
-use Prim.Native.Nat.{ℕ, suc, _+_, _%_, _≤_, _<_}
+use Prim.Native.Nat.{ℕ, suc, _+_, _≤_, _<_}
 use native.Mathlib.Omega.{arith}
 use borrow.Author.Tests.{eq-eqb}
 use lib.Dec.{eqb}
@@ -35,7 +35,7 @@ use Rattle.engine.proofs.Numbered.{keep-numbered, numbers-there, number
 use Rattle.engine.proofs.Texts.{text-holds}
 use Rattle.engine.proofs.Turned.{Moves}
 use Rattle.engine.proofs.Planned.{SheetPlanned, sheet-planned}
-use Rattle.engine.proofs.Carried.{image-same, cell-plain, cell-same, bad-fits, guard-holds, moves-main, moves-variables}
+use Rattle.engine.proofs.Carried.{image-same, cell-plain, cell-same, guard-holds, moves-main, moves-variables}
 
 -- As many triples of one state and unit pass a test as there are of them, or fewer: 8 says that those are at most four.
 few-of : (p : Triple → Bool) (t : Triple) → ((u : Triple) → p u ≡ true → (eqb (u .state) (t .state) && eqb (u .unit) (t .unit)) ≡ true) → (i : ℕ) (l : List Triple) → length (numbers p i l) ≤ together t l
@@ -73,7 +73,7 @@ module _ {s : List ℕ} (a : Accepted sheetLayout s) (short : length s ≤ 65535
   p = sheetPlan s
 
   y : SheetPlanned s (conditionPlaces s) (actionPlaces s) (placesOf sheetLayout s .last) (transitionsOf sheetLayout s) (lastOf sheetLayout s) (sheetPlan s)
-  y = sheet-planned a
+  y = sheet-planned a short
 
   x : Moves s (conditionPlaces s) (actionPlaces s) (map (λ t. t) (transitionsOf sheetLayout s)) (sheetPlan s)
   x = rw (map-id (transitionsOf sheetLayout s)) (y .moves)
@@ -124,7 +124,7 @@ module _ {s : List ℕ} (a : Accepted sheetLayout s) (short : length s ≤ 65535
         units = y .heads .units;
         programs = y .heads .programs;
         monitors = y .heads .monitors;
-        bad = ap (λ (n : ℕ). n % 65536) (y .heads .bad) ∙ bad-fits a;
+        bad = y .heads .bad;
         fewPrograms = bounds a .programs;
         fewLast = bounds a .last;
         moves = λ k e f. moves-main a short (omega arith) (omega arith) 0 (λ t. t) noTransition p ts few-transitions (λ j m. sheet-transition a j noTransition m) (y .heads) x k e f ts (image-same (first (enabled C k e) ts));

@@ -2,7 +2,7 @@
 use mathlib.Core.Path.{_≡_, refl, ap, _∙_}
 use mathlib.Core.Bool.{Bool, true, false, cond}
 use mathlib.Core.List.{List, [], _∷_}
-use Prim.Native.Nat.{ℕ, zero, suc, _+_, _-_, _*_, _≤_, _<_, min}
+use Prim.Native.Nat.{ℕ, zero, suc, _+_, _-_, _*_, _%_, _≤_, _<_, min}
 use native.Mathlib.Omega.{arith}
 use lib.Dec.{eqb}
 use lib.ListN.{length, getD, drop, length-replicate, replicate}
@@ -42,7 +42,7 @@ module _ (h : Header) (paired last : ℕ) where
   unfolding empty
   blank-absent k a b = behind-front planSize absent (headWords h paired last) k a b
 
-  pub blank-header : (getD (blank h paired last) 0 0 ≡ h .units) × (getD (blank h paired last) 1 0 ≡ h .programs) × (getD (blank h paired last) 2 0 ≡ h .monitors) × (getD (blank h paired last) 3 0 ≡ h .bad) × (getD (blank h paired last) 4 0 ≡ paired) × (getD (blank h paired last) 5 0 ≡ last)
+  pub blank-header : (getD (blank h paired last) 0 0 ≡ h .units) × (getD (blank h paired last) 1 0 ≡ h .programs) × (getD (blank h paired last) 2 0 ≡ h .monitors) × (getD (blank h paired last) 3 0 ≡ h .bad) × (getD (blank h paired last) 4 0 ≡ paired) × (getD (blank h paired last) 5 0 ≡ last % 65536)
   unfolding empty
   blank-header = (refl, refl, refl, refl, refl, refl)
 

@@ -3,7 +3,7 @@ use mathlib.Core.Path.{_≡_, refl, sym, ap, subst, _∙_}
 use mathlib.Core.Bool.{true, false, cond}
 use mathlib.Core.List.{List, [], _∷_, map}
 use Prim.Native.Nat.{ℕ, zero, suc, _+_, _-_, _*_, _≤_, _<_, min}
-use native.Mathlib.Nat.{min-eq-left}
+use native.Mathlib.Nat.{min-eq-left, mod-eq-of-lt}
 use native.Mathlib.Omega.{arith}
 use borrow.Author.Tests.{lt-ltb}
 use lib.Dec.{eqb}
@@ -19,6 +19,7 @@ use Rattle.sheet.specs.declared.Triple.{Triple}
 use Rattle.sheet.specs.declared.Template.{Template}
 use Rattle.sheet.specs.Answer.{headerOf, placesOf}
 use Rattle.sheet.proofs.Accepted.{Accepted, bounds, network-pairs}
+use Rattle.sheet.proofs.Limits.{table-places}
 use Rattle.sheet.proofs.Tables.{length-records, length-starts, table-at, table-step, same-starts, same-records}
 use Rattle.sheet.proofs.Loops.{byte-past}
 use Rattle.step.specs.Lists.{numbers}
@@ -129,7 +130,7 @@ module _ (s conditions : List ℕ) (m last : ℕ) (some : m ≤ 32) (old : List 
         ∙ linked-at f k i (λ n at q z. triple-other s conditions n at q k (λ x. omega (arith, cell-below s at)) (λ y w x. omega arith)) 0 places 0 i old (omega arith) (omega (arith, length-starts tripleForm m s last))
         ∙ triple-word s conditions i (getD places i 0) (linked f (suc i) (drop (suc i) places) old) k j e b (omega arith) (linked-length f (triple-length s conditions) (drop (suc i) places) (suc i) old ∙ long)
 
-module _ (s conditions actions : List ℕ) (n a m last : ℕ) (few : n ≤ 96) (some : m ≤ 32) where
+module _ (s conditions actions : List ℕ) (n a m last : ℕ) (few : n ≤ 96) (some : m ≤ 32) (near : last < 65536) where
   sheet-there : SheetPlanned s conditions actions last (table transitionForm n s a) (table tripleForm m s last) (sets (tripled s conditions m last (turned s conditions actions false n a (blank (headerOf s) 0 last))) 520 (postWords s conditions 4 m last))
   sheet-there =
       let first = blank (headerOf s) 0 last in
@@ -148,7 +149,7 @@ module _ (s conditions actions : List ℕ) (n a m last : ℕ) (few : n ≤ 96) (
       let front : (k : ℕ) → k < 8 → getD p k 0 ≡ getD first k 0 = λ k b. low k (omega arith) (λ j y e. omega arith) ∙ turned-front s conditions actions false n a few first long k b in
       record {
         heads = heads-there s 0 last p front;
-        begins = front 5 (omega arith) ∙ blank-header (headerOf s) 0 last .5;
+        begins = front 5 (omega arith) ∙ blank-header (headerOf s) 0 last .5 ∙ mod-eq-of-lt near;
         moves = moves-there s conditions actions false n a few first long (λ k b. blank-absent (headerOf s) 0 last (8 + k) (omega arith) (omega arith)) p (λ k b. low k (omega arith) (λ j y e. omega arith)) (λ k b c. low k c (λ j y e. omega arith));
         celled = celled-there s conditions m last some second second-long p high empty;
         asked = λ i d b. triple-there s conditions m last some second second-long p high i (omega arith) (1192 + 3 * i) 0 (omega arith) (omega arith) ∙ ap (λ (u : Triple). textPlace s conditions (u .precondition)) (table-at tripleForm m s last i d (omega arith));
@@ -157,9 +158,9 @@ module _ (s conditions actions : List ℕ) (n a m last : ℕ) (few : n ≤ 96) (
       }
 
 -- what an accepted sheet's plan holds
-pub sheet-planned : {s : List ℕ} → Accepted sheetLayout s → SheetPlanned s (placesOf sheetLayout s .conditions) (placesOf sheetLayout s .actions) (placesOf sheetLayout s .last) (transitionsOf sheetLayout s) (lastOf sheetLayout s) (sheetPlan s)
+pub sheet-planned : {s : List ℕ} → Accepted sheetLayout s → length s ≤ 65535 → SheetPlanned s (placesOf sheetLayout s .conditions) (placesOf sheetLayout s .actions) (placesOf sheetLayout s .last) (transitionsOf sheetLayout s) (lastOf sheetLayout s) (sheetPlan s)
 unfolding sheetInto
-sheet-planned {s} a =
+sheet-planned {s} a short =
     let x = placesOf sheetLayout s in
     let few : transitionsIn s ≤ 64 = transitions-most a in
     let en : transitionsIn s ≡ min (transitionsIn s) 96 = sym (min-eq-left (omega arith)) in
@@ -167,7 +168,7 @@ sheet-planned {s} a =
     let same : sets (tripled s (x .conditions) (lastIn s) (x .last) (turned s (x .conditions) (x .actions) false (transitionsIn s) (x .transitions) (blank (headerOf s) 0 (x .last)))) 520 (postWords s (x .conditions) 4 (lastIn s) (x .last)) ≡ sheetPlan s
     = (λ j. sets (tripled s (x .conditions) (em j) (x .last) (turned s (x .conditions) (x .actions) false (en j) (x .transitions) (blank (headerOf s) 0 (x .last)))) 520 (postWords s (x .conditions) 4 (em j) (x .last)))
     ∙ ap (λ (q : List ℕ). sets (tripled s (x .conditions) (min (lastIn s) 32) (x .last) q) 520 (postWords s (x .conditions) 4 (min (lastIn s) 32) (x .last))) (sym (turns s (x .conditions) (x .actions) false (transitionPlaces false (headerOf s) s (x .transitions)) (blank (headerOf s) 0 (x .last)))) in
-    subst (SheetPlanned s (x .conditions) (x .actions) (x .last) (transitionsOf sheetLayout s) (lastOf sheetLayout s)) same (sheet-there s (x .conditions) (x .actions) (transitionsIn s) (x .transitions) (lastIn s) (x .last) (omega arith) (last-most a))
+    subst (SheetPlanned s (x .conditions) (x .actions) (x .last) (transitionsOf sheetLayout s) (lastOf sheetLayout s)) same (sheet-there s (x .conditions) (x .actions) (transitionsIn s) (x .transitions) (lastIn s) (x .last) (omega arith) (last-most a) (table-places a 65536 (omega (arith, short)) .1))
 
 -- The plan of a network: its header, its transitions, the pairs of each of them in a chain, none for no transition, and its templates.
 pub record NetworkPlanned (s conditions actions : List ℕ) (last : ℕ) (ts : List Paired) (us : List Template) (p : List ℕ) : Type 0 where
@@ -210,7 +211,7 @@ module _ (s conditions actions : List ℕ) (n a : ℕ) (few : n ≤ 96) (old : L
       let found = run-from s conditions p t l (getD p (936 + t) 0) head (omega arith) few-pairs there in
       (found .0 ∙ ap (λ (v : Paired). map (λ q. textPlace s conditions (q .condition)) (v .pairs)) e, found .1 ∙ ap (λ (v : Paired). map (λ q. q .template) (v .pairs)) e)
 
-module _ (s conditions actions : List ℕ) (n a m last : ℕ) (few : n ≤ 96) (some : m ≤ 32) (four : (t : ℕ) (d : Paired) → t < length (table pairedForm n s a) → length (getD (table pairedForm n s a) t d .pairs) ≤ 4) where
+module _ (s conditions actions : List ℕ) (n a m last : ℕ) (few : n ≤ 96) (some : m ≤ 32) (near : last < 65536) (four : (t : ℕ) (d : Paired) → t < length (table pairedForm n s a) → length (getD (table pairedForm n s a) t d .pairs) ≤ 4) where
   network-there : NetworkPlanned s conditions actions last (table pairedForm n s a) (table templateForm m s last) (sets (turned s conditions actions true n a (blank (headerOf s) 1 last)) 520 (postWords s conditions 2 m last))
   network-there =
       let first = blank (headerOf s) 1 last in
@@ -228,7 +229,7 @@ module _ (s conditions actions : List ℕ) (n a m last : ℕ) (few : n ≤ 96) (
       let front : (k : ℕ) → k < 8 → getD p k 0 ≡ getD first k 0 = λ k b. other k (λ j y e. omega arith) ∙ turned-front s conditions actions true n a few first long k b in
       record {
         heads = heads-there s 1 last p front;
-        begins = front 5 (omega arith) ∙ blank-header (headerOf s) 1 last .5;
+        begins = front 5 (omega arith) ∙ blank-header (headerOf s) 1 last .5 ∙ mod-eq-of-lt near;
         moves = subst (λ (ts : List Transition). Moves s conditions actions ts p) bases (moves-there s conditions actions true n a few first long (λ k b. blank-absent (headerOf s) 1 last (8 + k) (omega arith) (omega arith)) p (λ k b. other k (λ j y e. omega arith)) (λ k b c. other k (λ j y e. omega arith)));
         asked = λ t d b. pairs-there s conditions actions n a few first long p high t (omega arith) d (four t d b) .0;
         number = λ t d b. pairs-there s conditions actions n a few first long p high t (omega arith) d (four t d b) .1;
@@ -237,9 +238,9 @@ module _ (s conditions actions : List ℕ) (n a m last : ℕ) (few : n ≤ 96) (
       }
 
 -- what an accepted network's plan holds
-pub network-planned : {s : List ℕ} → Accepted networkLayout s → NetworkPlanned s (placesOf networkLayout s .conditions) (placesOf networkLayout s .actions) (placesOf networkLayout s .last) (transitionsOf networkLayout s) (lastOf networkLayout s) (networkPlan s)
+pub network-planned : {s : List ℕ} → Accepted networkLayout s → length s ≤ 65535 → NetworkPlanned s (placesOf networkLayout s .conditions) (placesOf networkLayout s .actions) (placesOf networkLayout s .last) (transitionsOf networkLayout s) (lastOf networkLayout s) (networkPlan s)
 unfolding networkInto
-network-planned {s} a =
+network-planned {s} a short =
     let x = placesOf networkLayout s in
     let few : transitionsIn s ≤ 96 = transitions-most a in
     let en : transitionsIn s ≡ min (transitionsIn s) 96 = sym (min-eq-left few) in
@@ -247,4 +248,4 @@ network-planned {s} a =
     let same : sets (turned s (x .conditions) (x .actions) true (transitionsIn s) (x .transitions) (blank (headerOf s) 1 (x .last))) 520 (postWords s (x .conditions) 2 (lastIn s) (x .last)) ≡ networkPlan s
     = (λ j. sets (turned s (x .conditions) (x .actions) true (en j) (x .transitions) (blank (headerOf s) 1 (x .last))) 520 (postWords s (x .conditions) 2 (em j) (x .last)))
     ∙ ap (λ (q : List ℕ). sets q 520 (postWords s (x .conditions) 2 (min (lastIn s) 32) (x .last))) (sym (turns s (x .conditions) (x .actions) true (transitionPlaces true (headerOf s) s (x .transitions)) (blank (headerOf s) 1 (x .last)))) in
-    subst (NetworkPlanned s (x .conditions) (x .actions) (x .last) (transitionsOf networkLayout s) (lastOf networkLayout s)) same (network-there s (x .conditions) (x .actions) (transitionsIn s) (x .transitions) (lastIn s) (x .last) few (last-most a) (λ t d h. network-pairs a t d h))
+    subst (NetworkPlanned s (x .conditions) (x .actions) (x .last) (transitionsOf networkLayout s) (lastOf networkLayout s)) same (network-there s (x .conditions) (x .actions) (transitionsIn s) (x .transitions) (lastIn s) (x .last) few (last-most a) (table-places a 65536 (omega (arith, short)) .1) (λ t d h. network-pairs a t d h))

@@ -48,24 +48,24 @@ module _ (p : List ℕ) (r : Running) (row : List ℕ) (g : Given) (at : ℕ) wh
   unfolding refusalIn
   refused-judged b e h = rw (← e, h)
 
-  module _ (judged : Bool) (ej : judged ≡ isJudged (verdictIn (r .outcome))) (open-still : judged ≡ false) (unit : ℕ) (eu : unit ≡ g .unit) (programs : ℕ) (ep : programs ≡ programsIn p) where
-    pub refused-form : (leb (g .kind) 1 && (ltb unit (unitsIn p) && eqb (g .count) programs)) ≡ false → 11 ≡ refusalIn p r row g at
+  module _ (judged : Bool) (ej : judged ≡ isJudged (verdictIn (r .outcome))) (open-still : judged ≡ false) (unit : ℕ) (eu : unit ≡ g .unit) (units : ℕ) (es : units ≡ unitsIn p) (programs : ℕ) (ep : programs ≡ programsIn p) where
+    pub refused-form : (leb (g .kind) 1 && (ltb unit units && eqb (g .count) programs)) ≡ false → 11 ≡ refusalIn p r row g at
     unfolding refusalIn
-    refused-form h = rw (← ej, open-still, ← eu, ← ep, h)
+    refused-form h = rw (← ej, open-still, ← eu, ← es, ← ep, h)
 
-    module _ (fits : (leb (g .kind) 1 && (ltb unit (unitsIn p) && eqb (g .count) programs)) ≡ true) where
+    module _ (fits : (leb (g .kind) 1 && (ltb unit units && eqb (g .count) programs)) ≡ true) where
       pub refused-last : r .position ≡ lastPosition → 12 ≡ refusalIn p r row g at
       unfolding refusalIn
-      refused-last h = rw (← ej, open-still, ← eu, ← ep, fits, eq-eqb (r .position) lastPosition h)
+      refused-last h = rw (← ej, open-still, ← eu, ← es, ← ep, fits, eq-eqb (r .position) lastPosition h)
 
       module _ (early : r .position ≡ lastPosition → ⊥) (opened : ℕ) (eo : opened ≡ r .opened) (x : ℕ) where
         pub refused-entry : g .kind ≡ 0 → x ≡ entryRefusal opened at → x ≡ refusalIn p r row g at
         unfolding refusalIn
-        refused-entry k h = rw (← ej, open-still, ← eu, ← ep, fits, ne-eqb (r .position) lastPosition early, eq-eqb (g .kind) 0 k, ← eo) h
+        refused-entry k h = rw (← ej, open-still, ← eu, ← es, ← ep, fits, ne-eqb (r .position) lastPosition early, eq-eqb (g .kind) 0 k, ← eo) h
 
         pub refused-exit : (g .kind ≡ 0 → ⊥) → (v : ℕ) → v ≡ g .unit → x ≡ exitRefusal row opened at v → x ≡ refusalIn p r row g at
         unfolding refusalIn
-        refused-exit k v ev h = rw (← ej, open-still, ← eu, ← ep, fits, ne-eqb (r .position) lastPosition early, ne-eqb (g .kind) 0 k, ← eo, eu, ← ev) h
+        refused-exit k v ev h = rw (← ej, open-still, ← eu, ← es, ← ep, fits, ne-eqb (r .position) lastPosition early, ne-eqb (g .kind) 0 k, ← eo, eu, ← ev) h
 
 -- Where there is no refusal.
 first-passed : (b : Bool) (n rest : ℕ) → cond b (suc n) rest ≡ 0 → rest ≡ 0

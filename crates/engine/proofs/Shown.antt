@@ -166,8 +166,8 @@ module _ (M : Machine) (last : ℕ) (s p : List ℕ) (σ : Words) (e : Event) (c
         let variables : take (C .monitors) (variablesAfter s p t (eightOf e) (σ .variables)) ≡ to .variables =
         ap (λ (i : ℕ). take (C .monitors) (variablesAfter s p i (eightOf e) (σ .variables))) et ∙ ap (take (C .monitors)) (c .alters k e fits (σ .variables) refl) ∙ take-at (to .variables) _ (C .monitors) long in
         let judged : ℕ → ℕ → Option ℕ → Option Verdict = λ bad main t. verdictFor bad (r .position + 1) main t in
-        let outcome : verdictIn (outcomeOf (verdictFor (badIn p % 65536) (r .position + 1) (mainAfter p t (r .main)) (numberIn low))) ≡ judged (C .bad) (to .main) o =
-        verdict-outcome (verdictFor (badIn p % 65536) (r .position + 1) (mainAfter p t (r .main)) (numberIn low)) ∙ (λ i. judged (c .bad i) (main i) (el i)) in
+        let outcome : verdictIn (outcomeOf (verdictFor (badIn p) (r .position + 1) (mainAfter p t (r .main)) (numberIn low))) ≡ judged (C .bad) (to .main) o =
+        verdict-outcome (verdictFor (badIn p) (r .position + 1) (mainAfter p t (r .main)) (numberIn low)) ∙ (λ i. judged (c .bad i) (main i) (el i)) in
         λ i. stateOf (main i) (variables i) (ec i) (r .position + 1) (outcome i)
 
     pub entered-shown : e .kind ≡ 0 → shownBy (M .common) (enteredIn s p σ (givenOf e) (eightOf e)) ≡ entered M (shownBy (M .common) σ) e

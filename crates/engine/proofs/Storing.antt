@@ -2,7 +2,7 @@
 use mathlib.Core.Path.{_≡_, sym, ap, _∙_}
 use mathlib.Core.Bool.{cond}
 use mathlib.Core.List.{List, [], _∷_}
-use Prim.Native.Nat.{ℕ, suc, _+_, _-_, _*_}
+use Prim.Native.Nat.{ℕ, suc, _+_, _-_, _*_, _%_}
 use native.Mathlib.Numerals.{add-one}
 use native.Mathlib.Omega.{arith}
 use borrow.Author.Tests.{eq-eqb, ne-eqb}
@@ -35,20 +35,20 @@ module _ (s index : List ℕ) (i at : ℕ) (e : at ≡ startOf index i) where
     unfolding actionPlace
     action-something h = something s at b f h ∙ ap (λ (m : ℕ). cond (eqb (byte s m) 0) 0 m) e
 
-  module _ (k : ℕ) (g : k ≡ lead (wide s)) (b : ℕ) (f : b ≡ byte s (at + k)) where
-    there : at + k ≡ startOf index i + lead (wide s)
-    there = λ j. e j + g j
+  module _ (k : ℕ) (g : k ≡ lead (wide s)) (b : ℕ) (f : b ≡ byte s ((at + k) % 65536)) where
+    there : (at + k) % 65536 ≡ (startOf index i + lead (wide s)) % 65536
+    there = λ j. (e j + g j) % 65536
 
     pub text-nothing : b ≡ 0 → 0 ≡ textPlace s index i
     unfolding textPlace
-    text-nothing h = nothing s (at + k) b f h ∙ ap (λ (m : ℕ). cond (eqb (byte s m) 0) 0 m) there
+    text-nothing h = nothing s ((at + k) % 65536) b f h ∙ ap (λ (m : ℕ). cond (eqb (byte s m) 0) 0 m) there
 
-    pub text-something : (b ≡ 0 → ⊥) → at + k ≡ textPlace s index i
+    pub text-something : (b ≡ 0 → ⊥) → (at + k) % 65536 ≡ textPlace s index i
     unfolding textPlace
-    text-something h = something s (at + k) b f h ∙ ap (λ (m : ℕ). cond (eqb (byte s m) 0) 0 m) there
+    text-something h = something s ((at + k) % 65536) b f h ∙ ap (λ (m : ℕ). cond (eqb (byte s m) 0) 0 m) there
 
-pub head-words : (p : List ℕ) (h : Header) (paired last units programs monitors bad : ℕ) → units ≡ h .units → programs ≡ h .programs → monitors ≡ h .monitors → bad ≡ h .bad → sets p 0 (units ∷ programs ∷ monitors ∷ bad ∷ paired ∷ last ∷ []) ≡ sets p 0 (headWords h paired last)
-head-words p h paired last units programs monitors bad e f g k = λ i. sets p 0 (e i ∷ f i ∷ g i ∷ k i ∷ paired ∷ last ∷ [])
+pub head-words : (p : List ℕ) (h : Header) (paired last units programs monitors : ℕ) → units ≡ h .units → programs ≡ h .programs → monitors ≡ h .monitors → sets p 0 (units ∷ programs ∷ monitors ∷ h .bad ∷ paired ∷ last % 65536 ∷ []) ≡ sets p 0 (headWords h paired last)
+head-words p h paired last units programs monitors e f g = λ i. sets p 0 (e i ∷ f i ∷ g i ∷ h .bad ∷ paired ∷ last % 65536 ∷ [])
 
 -- three and four stores in a row
 module _ (p : List ℕ) (k x y z : ℕ) where

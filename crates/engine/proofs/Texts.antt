@@ -3,12 +3,12 @@ use mathlib.Core.Path.{_≡_, refl, sym, ap, ap₂, subst, _∙_}
 use mathlib.Core.Bool.{Bool, true, false, cond, and-eq-true-iff}
 use mathlib.Core.Option.{Option, none, some}
 use mathlib.Core.List.{List, [], _∷_}
-use Prim.Native.Nat.{ℕ, zero, suc, _+_, _≤_, _<_}
+use Prim.Native.Nat.{ℕ, zero, suc, _+_, _%_, _≤_, _<_}
 use native.Mathlib.Nat.{mod-eq-of-lt}
 use native.Mathlib.Omega.{arith}
 use borrow.Author.Tests.{leb-true, eqb-true, ne-eqb, lt-ltb}
 use lib.Dec.{eqb, leb}
-use lib.ListN.{length, getD, take, drop, length-take, take-append-drop}
+use lib.ListN.{length, getD, take, drop, length-take, length-drop, take-append-drop}
 use lib.Seq.{drop-drop, getD-drop, getD-take}
 use Rattle.condition.specs.declared.Lent.{Lent}
 use Rattle.condition.specs.Tree.{Condition}
@@ -103,8 +103,9 @@ module _ {T R : Type 0} {F : Layout T R} {s : List ℕ} (a : Accepted F s) (fits
         let same : take n (drop q s) ≡ conditionIn (commonOf s) i = ap (take n) (sym (drop-drop (lead w) at s)) ∙ condition-there a i few h in
         let tree : parseCondition (lent E) (take n (drop q s)) ≡ some c = ap (parseCondition (lent E)) same ∙ e in
         let long : 1 ≤ length (take n (drop q s)) = rw same (some-bytes (conditionIn (commonOf s) i) z) in
+        let place : (startOf (conditionPlaces s) i + lead w) % 65536 ≡ q = ap (λ (k : ℕ). (k + lead w) % 65536) start ∙ mod-eq-of-lt (omega (arith, long, length-take n (drop q s), length-drop q s, fits)) in
         let byte-first : getD (take n (drop q s)) 0 0 ≡ byte s q = getD-take n (drop q s) 0 0 (omega (arith, length-take n (drop q s))) ∙ getD-drop q s 0 0 ∙ ap (λ (k : ℕ). getD s k 0) {x = q + 0} {y = q} (omega arith) in
-        rw start (go (eqb (byte s q) 0) refl q (some-lead w at) tree byte-first)
+        rw place (go (eqb (byte s q) 0) refl q (some-lead w at) tree byte-first)
       where
         some-lead : (w : Bool) (at : ℕ) → at + lead w ≡ 0 → ⊥
         some-lead true at e = omega arith

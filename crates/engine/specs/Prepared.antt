@@ -20,7 +20,7 @@ startOf index i = getD index i 0 % 65536
 
 -- where the text of a condition begins, behind its length; 0 where it is `true`
 unfoldable pub textPlace : List ℕ → List ℕ → ℕ → ℕ
-textPlace s index i = let at = startOf index i + lead (wide s) in cond (eqb (byte s at) 0) 0 at
+textPlace s index i = let at = (startOf index i + lead (wide s)) % 65536 in cond (eqb (byte s at) 0) 0 at
 
 -- where an action stands, with its length byte; 0 where it is empty
 unfoldable pub actionPlace : List ℕ → List ℕ → ℕ → ℕ
@@ -65,9 +65,9 @@ unfoldable pub postWords : List ℕ → List ℕ → ℕ → ℕ → ℕ → Lis
 postWords s conditions size zero at = []
 postWords s conditions size (suc n) at = textPlace s conditions (byte s (at + (size - 1))) ∷ postWords s conditions size n (at + size)
 
--- the numbers of the header, whether transitions have pairs, and where the triples or templates begin
+-- the numbers of the header, whether transitions have pairs, and where the triples or templates begin, a place of two bytes
 abbrev pub headWords : Header → ℕ → ℕ → List ℕ
-headWords h paired last = h .units ∷ h .programs ∷ h .monitors ∷ h .bad ∷ paired ∷ last ∷ []
+headWords h paired last = h .units ∷ h .programs ∷ h .monitors ∷ h .bad ∷ paired ∷ last % 65536 ∷ []
 
 -- where the first transitions of a table stand, at most 96
 abbrev pub transitionPlaces : Bool → Header → List ℕ → ℕ → List ℕ

@@ -2,7 +2,7 @@
 use mathlib.Core.Path.{_≡_}
 use mathlib.Core.Bool.{true}
 use mathlib.Core.List.{List, map, _++_}
-use Prim.Native.Nat.{ℕ, _+_, _*_, _%_, _≤_, _<_}
+use Prim.Native.Nat.{ℕ, _+_, _*_, _≤_, _<_}
 use lib.Dec.{eqb, ltb}
 use lib.ListN.{length, getD, take, drop}
 use Rattle.condition.specs.Meaning.{environment}
@@ -64,7 +64,7 @@ pub record Carries (M : Machine) (last : ℕ) (s p : List ℕ) : Type 0 where
   pub units : unitsIn p ≡ M .common .units
   pub programs : programsIn p ≡ M .common .programs
   pub monitors : monitorsIn p ≡ M .common .monitors
-  pub bad : badIn p % 65536 ≡ M .common .bad
+  pub bad : badIn p ≡ M .common .bad
   pub fewPrograms : M .common .programs ≤ 8
   pub fewLast : last ≤ 32
   pub moves : (k : Configuration) (e : Event) → Fits (M .common) k e → mainAfter p (foundBy s p k e) (k .main) ≡ moved (M .common) (M .transitions) k e .main

@@ -11,6 +11,8 @@ ghost use Rattle.engine.specs.Walk.{holdsBy, foundIn, armedIn, lowIn, ma
 use crate::Given;
 use crate::PLAN;
 use crate::Running;
+use crate::broad;
+use crate::long;
 use crate::place;
 use crate::row;
 use crate::wide;
@@ -24,7 +26,7 @@ pub(crate) struct Leaving {
 // An entry: what it arms, and the values kept.
 pub(crate) fn entered(
     s: &[u8],
-    plan: &[u32; PLAN],
+    plan: &[u16; PLAN],
     run: Running,
     row: &mut [u32; 256],
     variables: &mut [u32; 4],
@@ -34,10 +36,10 @@ pub(crate) fn entered(
     requires { ⌜ (run .opened < 16) × (run .position < 4294967295) ⌝ }
     ensures { λ r. ⌜ words r (now (row .exit)) (now (variables .exit)) ≡ enteredIn (now (s .entry)) (now (plan .entry)) (words run (now (row .entry)) (now (variables .entry))) given (now (values .entry)) ⌝ }
 {
-    let program = condition::front(&values[..], place(plan[1]));
-    let monitor = condition::front(&variables[..], place(plan[2]));
+    let program = condition::front(&values[..], broad(plan[1]));
+    let monitor = condition::front(&variables[..], broad(plan[2]));
     let cell = cell_of(run.main, given.unit);
-    let t = find(s, plan, place(plan[8 + 2 * cell]), program, monitor);
+    let t = find(s, plan, broad(plan[8 + 2 * cell]), program, monitor);
     let at = 16 * wide(run.opened);
     let first = candidate(plan, cell, t);
     row::put(row, at, given, values);
@@ -49,7 +51,7 @@ pub(crate) fn entered(
 // An exit: what is armed for its call is judged, and its place is free.
 pub(crate) fn exited(
     s: &[u8],
-    plan: &[u32; PLAN],
+    plan: &[u16; PLAN],
     run: Running,
     row: &mut [u32; 256],
     variables: &mut [u32; 4],
@@ -59,22 +61,22 @@ pub(crate) fn exited(
     requires { ⌜ (leaving .place + 16 ≤ 16 * run .opened) × (run .opened ≤ 16) × (run .position < 4294967295) ⌝ }
     ensures { λ r. ⌜ words r (now (row .exit)) (now (variables .exit)) ≡ exitedIn (now (s .entry)) (now (plan .entry)) (words run (now (row .entry)) (now (variables .entry))) (leaving .unit) (leaving .place) (now (values .entry)) ⌝ }
 {
-    let program = condition::front(&values[..], place(plan[1]));
-    let monitor = condition::front(&variables[..], place(plan[2]));
+    let program = condition::front(&values[..], broad(plan[1]));
+    let monitor = condition::front(&variables[..], broad(plan[2]));
     let low = lowest_failing(s, plan, row, leaving.place, program, monitor);
     row::close(row, leaving.place, wide(run.opened));
     let cell = cell_of(run.main, leaving.unit);
-    let t = find(s, plan, place(plan[9 + 2 * cell]), program, monitor);
+    let t = find(s, plan, broad(plan[9 + 2 * cell]), program, monitor);
     let main = moved(s, plan, t, run.main, variables, values);
     after(plan, run.position, main, run.opened - 1, low)
 }
 
 // What stands beside the calls and variables after an event, for the lowest number that fails.
-fn after(plan: &[u32; PLAN], position: u32, main: u8, opened: u8, low: u16) -> Running
+fn after(plan: &[u16; PLAN], position: u32, main: u8, opened: u8, low: u16) -> Running
     requires { ⌜ position < 4294967295 ⌝ }
     ensures { λ r. ⌜ r ≡ runAfter (now (plan .entry)) position main opened low ⌝ }
 {
-    let bad = (plan[3] % 65536) as u16;
+    let bad = plan[3];
     let next = position + 1;
     Running {
         main,
@@ -91,34 +93,34 @@ pub(crate) fn cell_of(main: u8, unit: u8) -> usize
 }
 
 // The first candidate of an entry: of its state and unit, or of the transition that is taken.
-fn candidate(plan: &[u32; PLAN], cell: usize, t: usize) -> usize
+fn candidate(plan: &[u16; PLAN], cell: usize, t: usize) -> usize
     requires { ⌜ (cell < 256) × (t ≤ 96) ⌝ }
-    ensures { λ r. ⌜ (r ≡ candidateOf (now (plan .entry)) cell t) × (r < 4294967296) ⌝ }
+    ensures { λ r. ⌜ (r ≡ candidateOf (now (plan .entry)) cell t) × (r < 65536) ⌝ }
 {
     if plan[4] == 0 {
-        place(plan[936 + cell])
+        broad(plan[936 + cell])
     } else {
-        place(plan[936 + t])
+        broad(plan[936 + t])
     }
 }
 
 // The first transition, from one on, whose condition holds; 96 where there is none.
 fn find<'a>(
     s: &[u8],
-    plan: &[u32; PLAN],
+    plan: &[u16; PLAN],
     first: usize,
     program: &'a [u32],
     monitor: &'a [u32],
 ) -> usize
-    requires { ⌜ first < 4294967296 ⌝ }
+    requires { ⌜ first < 65536 ⌝ }
     ensures { λ r. ⌜ (r ≡ foundIn (now (s .entry)) (now (plan .entry)) first (environment (now (program .entry)) (now (monitor .entry)) [])) × (r ≤ 96) ⌝ }
 {
     let mut t = first;
     while t < 96 {
-        if holds(s, place(plan[552 + 4 * t]), program, monitor, &program[..0]) {
+        if holds(s, broad(plan[552 + 4 * t]), program, monitor, &program[..0]) {
             return t;
         }
-        t = t + 1 + place(plan[555 + 4 * t]);
+        t = t + 1 + broad(plan[555 + 4 * t]);
     }
     96
 }
@@ -126,7 +128,7 @@ fn find<'a>(
 // The main state after a transition, whose action is carried out on the variables.
 fn moved(
     s: &[u8],
-    plan: &[u32; PLAN],
+    plan: &[u16; PLAN],
     t: usize,
     main: u8,
     variables: &mut [u32; 4],
@@ -136,10 +138,10 @@ fn moved(
     ensures { λ r. ⌜ (r ≡ mainAfter (now (plan .entry)) t main) × (now (variables .exit) ≡ variablesAfter (now (s .entry)) (now (plan .entry)) t (now (values .entry)) (now (variables .entry))) ⌝ }
 {
     if t < 96 {
-        let at = place(plan[553 + 4 * t]);
+        let at = broad(plan[553 + 4 * t]);
         if at == 0 {} else {
-            let program = condition::front(&values[..], place(plan[1]));
-            condition::perform_at(s, at, program, variables, place(plan[2]));
+            let program = condition::front(&values[..], broad(plan[1]));
+            condition::perform_at(s, at, program, variables, broad(plan[2]));
         }
         (plan[554 + 4 * t] % 256) as u8
     } else {
@@ -151,14 +153,14 @@ fn moved(
 // many.
 fn arm<'a>(
     s: &[u8],
-    plan: &[u32; PLAN],
+    plan: &[u16; PLAN],
     first: usize,
     program: &'a [u32],
     monitor: &'a [u32],
     row: &mut [u32; 256],
     at: usize,
 )
-    requires { ⌜ (first < 4294967296) × (at + 16 ≤ 256) ⌝ }
+    requires { ⌜ (first < 65536) × (at + 16 ≤ 256) ⌝ }
     ensures { λ _. ⌜ now (row .exit) ≡ set (sets (now (row .entry)) (at + 3) (take 4 (armedIn (now (s .entry)) (now (plan .entry)) first (environment (now (program .entry)) (now (monitor .entry)) [])))) (at + 2) (length (armedIn (now (s .entry)) (now (plan .entry)) first (environment (now (program .entry)) (now (monitor .entry)) []))) ⌝ }
 {
     let mut count: u32 = 0;
@@ -167,18 +169,18 @@ fn arm<'a>(
     while i < 384 {
         if holds(
             s,
-            place(plan[1192 + 3 * i]),
+            broad(plan[1192 + 3 * i]),
             program,
             monitor,
             &program[..0],
         ) {
             if count < 4 {
-                row[to] = plan[1193 + 3 * i];
+                row[to] = long(plan[1193 + 3 * i]);
                 to += 1;
             }
             count += 1;
         }
-        i = i + 1 + place(plan[1194 + 3 * i]);
+        i = i + 1 + broad(plan[1194 + 3 * i]);
     }
     row[at + 2] = count;
 }
@@ -186,7 +188,7 @@ fn arm<'a>(
 // The lowest number armed for the call at a place whose postcondition fails, or 256.
 fn lowest_failing<'a>(
     s: &[u8],
-    plan: &[u32; PLAN],
+    plan: &[u16; PLAN],
     row: &'a [u32; 256],
     at: usize,
     program: &'a [u32],
@@ -196,7 +198,7 @@ fn lowest_failing<'a>(
     ensures { λ r. ⌜ r ≡ lowIn (now (s .entry)) (now (plan .entry)) (now (row .entry)) at (now (program .entry)) (now (monitor .entry)) ⌝ }
 {
     let all = &row[..];
-    let kept = condition::front(&all[at + 8..at + 16], place(plan[1]));
+    let kept = condition::front(&all[at + 8..at + 16], broad(plan[1]));
     let count = four(row[at + 2]);
     let mut low = 256;
     let mut i = 0;
@@ -220,15 +222,15 @@ pub(crate) fn four(count: u32) -> usize
 fn lesser(low: u16, n: u32) -> u16
     ensures { λ r. ⌜ r ≡ min low n ⌝ }
 {
-    if n < crate::long(low) { n as u16 } else { low }
+    if n < long(low) { n as u16 } else { low }
 }
 
 // Where the postcondition of a number stands.
-fn post(plan: &[u32; PLAN], n: u32) -> usize
+fn post(plan: &[u16; PLAN], n: u32) -> usize
     ensures { λ r. ⌜ r ≡ postOf (now (plan .entry)) n ⌝ }
 {
     let i = place(n);
-    if i < 32 { place(plan[520 + i]) } else { 0 }
+    if i < 32 { broad(plan[520 + i]) } else { 0 }
 }
 
 // Whether the condition at a place holds; 0 stands for `true`.

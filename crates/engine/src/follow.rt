@@ -21,7 +21,7 @@ use step::Outcome;
 use step::RunAnswer;
 
 // Follows the records of a log, of so many values each, from the state before the first event.
-pub(crate) fn follow(s: &[u8], plan: &[u32; PLAN], log: &[u8], programs: u8) -> RunAnswer
+pub(crate) fn follow(s: &[u8], plan: &[u16; PLAN], log: &[u8], programs: u8) -> RunAnswer
     requires { ⌜ (logReading programs (now log) ≡ 0) × (programs ≤ 8) ⌝ }
     ensures { λ r. ⌜ r ≡ ranAnswer endsBy (followIn (now (s .entry)) (now (plan .entry)) (eventsOf programs (now (log .entry)))) ⌝ }
 {

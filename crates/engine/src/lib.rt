@@ -26,7 +26,7 @@ mod row;
 // before it is made.
 pub const PLAN: usize = 2344;
 
-pub const ABSENT: u32 = 1000;
+pub const ABSENT: u16 = 1000;
 
 // What a state has beside its calls and its variables.
 pub struct Running {
@@ -52,7 +52,7 @@ pub struct Advanced {
 }
 
 // Reads a sheet and puts it into a plan; what is refused leaves the plan as it was.
-pub fn prepare_sheet(s: &[u8], plan: &mut [u32; PLAN]) -> Reading
+pub fn prepare_sheet(s: &[u8], plan: &mut [u16; PLAN]) -> Reading
     ensures { λ r. ⌜ r ≡ answer (reading sheetLayout (now (s .entry))) ⌝ }
     ensures { λ _. ⌜ now (plan .exit) ≡ unlessTaken (reading sheetLayout (now (s .entry))) (now (plan .entry)) (sheetInto (now (s .entry)) (now (plan .entry))) ⌝ }
 {
@@ -66,7 +66,7 @@ pub fn prepare_sheet(s: &[u8], plan: &mut [u32; PLAN]) -> Reading
 }
 
 // The same of a network.
-pub fn prepare_network(s: &[u8], plan: &mut [u32; PLAN]) -> Reading
+pub fn prepare_network(s: &[u8], plan: &mut [u16; PLAN]) -> Reading
     ensures { λ r. ⌜ r ≡ answer (reading networkLayout (now (s .entry))) ⌝ }
     ensures { λ _. ⌜ now (plan .exit) ≡ unlessTaken (reading networkLayout (now (s .entry))) (now (plan .entry)) (networkInto (now (s .entry)) (now (plan .entry))) ⌝ }
 {
@@ -105,7 +105,7 @@ pub fn run_network(s: &[u8], log: &[u8]) -> RunAnswer
 }
 
 // Reads a log and follows it.
-fn run_planned(s: &[u8], plan: &[u32; PLAN], log: &[u8]) -> RunAnswer
+fn run_planned(s: &[u8], plan: &[u16; PLAN], log: &[u8]) -> RunAnswer
     requires { ⌜ byte (now s) 5 ≤ 8 ⌝ }
     ensures { λ r. ⌜ r ≡ unlessRefused (logReading (byte (now (s .entry)) 5) (now (log .entry))) (ranAnswer endsBy (followIn (now (s .entry)) (now (plan .entry)) (eventsOf (byte (now (s .entry)) 5) (now (log .entry))))) ⌝ }
 {
@@ -126,7 +126,7 @@ fn length_said(s: &[u8]) -> usize
 // Offers one event: 9 to 15, or taken. A refused event alters nothing.
 pub fn advance(
     s: &[u8],
-    plan: &[u32; PLAN],
+    plan: &[u16; PLAN],
     run: Running,
     row: &mut [u32; 256],
     variables: &mut [u32; 4],
@@ -171,6 +171,18 @@ pub(crate) fn word(x: u8) -> u32
     ensures { λ r. ⌜ (r ≡ x) × (r < 256) ⌝ }
 {
     x as u32
+}
+
+pub(crate) fn short(x: u8) -> u16
+    ensures { λ r. ⌜ (r ≡ x) × (r < 256) ⌝ }
+{
+    x as u16
+}
+
+pub(crate) fn broad(x: u16) -> usize
+    ensures { λ r. ⌜ (r ≡ x) × (r < 65536) ⌝ }
+{
+    x as usize
 }
 
 pub(crate) fn long(x: u16) -> u32

@@ -16,12 +16,13 @@ ghost use Rattle.engine.specs.Prepared.{startOf, textPlace, actionPlace,
 use crate::ABSENT;
 use crate::PLAN;
 use crate::event::cell_of;
+use crate::short;
 use crate::wide;
 use crate::word;
 use sheet::Header;
 
 // Puts an accepted sheet into a plan.
-pub(crate) fn of_sheet(s: &[u8], plan: &mut [u32; PLAN])
+pub(crate) fn of_sheet(s: &[u8], plan: &mut [u16; PLAN])
     requires { ⌜ reading sheetLayout (now s) ≡ 0 ⌝ }
     ensures { λ _. ⌜ now (plan .exit) ≡ sheetInto (now (s .entry)) (now (plan .entry)) ⌝ }
 {
@@ -39,7 +40,7 @@ pub(crate) fn of_sheet(s: &[u8], plan: &mut [u32; PLAN])
 }
 
 // Puts an accepted network into a plan.
-pub(crate) fn of_network(s: &[u8], plan: &mut [u32; PLAN])
+pub(crate) fn of_network(s: &[u8], plan: &mut [u16; PLAN])
     requires { ⌜ reading networkLayout (now s) ≡ 0 ⌝ }
     ensures { λ _. ⌜ now (plan .exit) ≡ networkInto (now (s .entry)) (now (plan .entry)) ⌝ }
 {
@@ -55,15 +56,15 @@ pub(crate) fn of_network(s: &[u8], plan: &mut [u32; PLAN])
 }
 
 // The numbers of the header, whether transitions have pairs, and where the triples or templates begin.
-fn heads(h: Header, paired: u32, last: u32, plan: &mut [u32; PLAN])
+fn heads(h: Header, paired: u16, last: u32, plan: &mut [u16; PLAN])
     ensures { λ _. ⌜ now (plan .exit) ≡ sets (now (plan .entry)) 0 (headWords h paired last) ⌝ }
 {
-    plan[0] = word(h.units);
-    plan[1] = word(h.programs);
-    plan[2] = word(h.monitors);
-    plan[3] = crate::long(h.bad);
+    plan[0] = short(h.units);
+    plan[1] = short(h.programs);
+    plan[2] = short(h.monitors);
+    plan[3] = h.bad;
     plan[4] = paired;
-    plan[5] = last;
+    plan[5] = (last % 65536) as u16;
 }
 
 fn at_most(n: u8, most: usize) -> usize
@@ -109,7 +110,7 @@ fn transitions(
     places: &[u32; 96],
     n: usize,
     paired: bool,
-    plan: &mut [u32; PLAN],
+    plan: &mut [u16; PLAN],
 )
     requires { ⌜ (n ≤ 96) × (n ≤ length (now places)) × (every (λ x. leb x 1000000) (now places) ≡ true) ⌝ }
     ensures { λ _. ⌜ now (plan .exit) ≡ withTransitions paired (now (s .entry)) (now (conditions .entry)) (now (actions .entry)) (take n (now (places .entry))) (now (plan .entry)) ⌝ }
@@ -132,7 +133,7 @@ fn transition(
     actions: &[u32; 161],
     i: usize,
     at: u32,
-    plan: &mut [u32; PLAN],
+    plan: &mut [u16; PLAN],
 )
     requires { ⌜ i < 96 ⌝ }
     ensures { λ _. ⌜ now (plan .exit) ≡ withTransition (now (s .entry)) (now (conditions .entry)) (now (actions .entry)) i at (now (plan .entry)) ⌝ }
@@ -143,13 +144,13 @@ fn transition(
     let to = 552 + 4 * i;
     plan[to] = text(s, conditions, t.condition);
     plan[to + 1] = action(s, actions, t.action);
-    plan[to + 2] = word(t.to);
+    plan[to + 2] = short(t.to);
     plan[to + 3] = gap;
-    plan[key] = i as u32;
+    plan[key] = i as u16;
 }
 
 // The pairs of the transition at a place as candidates, up to four, and the first of them.
-fn pairs(s: &[u8], conditions: &[u32; 161], i: usize, at: u32, plan: &mut [u32; PLAN])
+fn pairs(s: &[u8], conditions: &[u32; 161], i: usize, at: u32, plan: &mut [u16; PLAN])
     requires { ⌜ (i < 96) × (at ≤ 1000000) ⌝ }
     ensures { λ _. ⌜ now (plan .exit) ≡ withPairs (now (s .entry)) (now (conditions .entry)) i at (now (plan .entry)) ⌝ }
 {
@@ -161,23 +162,23 @@ fn pairs(s: &[u8], conditions: &[u32; 161], i: usize, at: u32, plan: &mut [u32; 
         left -= 1;
         let p = sheet::pair_at(s, from);
         plan[to] = text(s, conditions, p.condition);
-        plan[to + 1] = word(p.template);
+        plan[to + 1] = short(p.template);
         plan[to + 2] = pick(left == 0, 0);
         from += 2;
         to += 3;
     }
-    plan[936 + i] = pick(n == 0, 4 * (i as u32));
+    plan[936 + i] = pick(n == 0, 4 * (i as u16));
 }
 
 // A number, or that of none.
-fn pick(none: bool, n: u32) -> u32
+fn pick(none: bool, n: u16) -> u16
     ensures { λ r. ⌜ r ≡ cond none absent n ⌝ }
 {
     if none { ABSENT } else { n }
 }
 
 // The triples from a place on, as candidates of their state and unit.
-fn triples(s: &[u8], conditions: &[u32; 161], at: u32, n: usize, plan: &mut [u32; PLAN])
+fn triples(s: &[u8], conditions: &[u32; 161], at: u32, n: usize, plan: &mut [u16; PLAN])
     requires { ⌜ (n ≤ 32) × (at ≤ 100000000) ⌝ }
     ensures { λ _. ⌜ now (plan .exit) ≡ linked (withTriple (now (s .entry)) (now (conditions .entry))) 0 (starts tripleForm n (now (s .entry)) at) (now (plan .entry)) ⌝ }
 {
@@ -191,7 +192,7 @@ fn triples(s: &[u8], conditions: &[u32; 161], at: u32, n: usize, plan: &mut [u32
 }
 
 // The words of the triple at a place, and its number as the first of its cell.
-fn triple(s: &[u8], conditions: &[u32; 161], i: usize, at: u32, plan: &mut [u32; PLAN])
+fn triple(s: &[u8], conditions: &[u32; 161], i: usize, at: u32, plan: &mut [u16; PLAN])
     requires { ⌜ i < 32 ⌝ }
     ensures { λ _. ⌜ now (plan .exit) ≡ withTriple (now (s .entry)) (now (conditions .entry)) i at (now (plan .entry)) ⌝ }
 {
@@ -200,13 +201,13 @@ fn triple(s: &[u8], conditions: &[u32; 161], i: usize, at: u32, plan: &mut [u32;
     let gap = behind(plan[cell], i);
     let to = 1192 + 3 * i;
     plan[to] = text(s, conditions, t.precondition);
-    plan[to + 1] = i as u32;
+    plan[to + 1] = i as u16;
     plan[to + 2] = gap;
-    plan[cell] = i as u32;
+    plan[cell] = i as u16;
 }
 
 // Where the postconditions of n records stand, each the last byte of its record.
-fn posts(s: &[u8], conditions: &[u32; 161], at: u32, n: usize, size: u32, plan: &mut [u32; PLAN])
+fn posts(s: &[u8], conditions: &[u32; 161], at: u32, n: usize, size: u32, plan: &mut [u16; PLAN])
     requires { ⌜ (n ≤ 32) × (at ≤ 100000000) × (1 ≤ size) × (size ≤ 4) ⌝ }
     ensures { λ _. ⌜ now (plan .exit) ≡ sets (now (plan .entry)) 520 (postWords (now (s .entry)) (now (conditions .entry)) size n at) ⌝ }
 {
@@ -220,19 +221,27 @@ fn posts(s: &[u8], conditions: &[u32; 161], at: u32, n: usize, size: u32, plan: 
 }
 
 // Where the text of a condition begins; 0 where it is `true`.
-fn text(s: &[u8], index: &[u32; 161], i: u8) -> u32
+fn text(s: &[u8], index: &[u32; 161], i: u8) -> u16
     ensures { λ r. ⌜ r ≡ textPlace (now (s .entry)) (now (index .entry)) i ⌝ }
 {
-    let at = start(index, i) + lead(s);
-    if sheet::byte_at(s, at) == 0 { 0 } else { at }
+    let at = (start(index, i) + lead(s)) % 65536;
+    if sheet::byte_at(s, at) == 0 {
+        0
+    } else {
+        at as u16
+    }
 }
 
 // Where an action stands; 0 where it is empty.
-fn action(s: &[u8], index: &[u32; 161], i: u8) -> u32
+fn action(s: &[u8], index: &[u32; 161], i: u8) -> u16
     ensures { λ r. ⌜ r ≡ actionPlace (now (s .entry)) (now (index .entry)) i ⌝ }
 {
     let at = start(index, i);
-    if sheet::byte_at(s, at) == 0 { 0 } else { at }
+    if sheet::byte_at(s, at) == 0 {
+        0
+    } else {
+        at as u16
+    }
 }
 
 // Where a text stands.
@@ -252,11 +261,11 @@ fn lead(s: &[u8]) -> u32
 }
 
 // How many stand between the record i and the next.
-fn behind(next: u32, i: usize) -> u32
+fn behind(next: u16, i: usize) -> u16
     requires { ⌜ i < 96 ⌝ }
     ensures { λ r. ⌜ r ≡ next - suc i ⌝ }
 {
-    let k = i as u32 + 1;
+    let k = i as u16 + 1;
     if k < next { next - k } else { 0 }
 }
 

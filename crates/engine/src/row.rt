@@ -9,6 +9,7 @@ ghost use Rattle.engine.specs.Walk.{placeIn, entryRefusal, exitRefusal, 
 use crate::Given;
 use crate::PLAN;
 use crate::Running;
+use crate::broad;
 use crate::long;
 use crate::wide;
 use crate::word;
@@ -31,7 +32,7 @@ pub(crate) fn place_of(row: &[u32; 256], opened: usize, number: u32) -> usize
 
 // The lowest of refusals 10 to 15, or 0, with the place of the event's number.
 pub(crate) fn refusal(
-    plan: &[u32; PLAN],
+    plan: &[u16; PLAN],
     run: Running,
     row: &[u32; 256],
     given: Given,
@@ -45,7 +46,7 @@ pub(crate) fn refusal(
         return 10;
     }
     if (given.kind <= 1)
-        & ((word(given.unit) < plan[0]) & (given.count == crate::place(plan[1])))
+        & ((wide(given.unit) < broad(plan[0])) & (given.count == broad(plan[1])))
     {} else {
         return 11;
     }

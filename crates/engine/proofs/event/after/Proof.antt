@@ -9,4 +9,4 @@ returns c = rw (c .outcome .ensures)
 pub after-spec : {M : Type 1} → statement M
 after-spec =
     tie.close
-    (tie.spec (λ c. search needs) (λ c. search needs) (λ c. search needs) (λ c κs. search needs) returns)
+    (tie.spec (λ c. search needs) (λ c. search needs) (λ c κs. search needs) returns)

@@ -29,12 +29,12 @@ loop-again c =
     let h = c .before .before .before .before .before .before .before .loop-test .taken in
     ⊎-elim
     (λ w.
-    let t = armed-here (a .s .now) (a .plan .now) E i h _ (c .before .before .before .before .before .place .ensures .0) _ (c .before .before .before .holds .ensures) _ (c .place2 .ensures .0) (w .0 .taken) in
+    let t = armed-here (a .s .now) (a .plan .now) E i h _ (c .before .before .before .before .before .broad .ensures .0) _ (c .before .before .before .holds .ensures) _ (c .broad2 .ensures .0) (w .0 .taken) in
     ⊎-elim
-    (λ v. rw (w .2, w .3, w .4, v .2, v .3) (storing-store _ _ _ _ _ _ _ _ g _ _ t _ (v .0 .taken)))
+    (λ v. rw (w .2, w .3, w .4, v .3, v .4) (storing-store _ _ _ _ _ _ _ _ g _ _ t _ _ (v .2 .ensures .0) (v .0 .taken)))
     (λ v. rw (w .2, w .3, w .4, v .1, v .2) (storing-past _ _ _ _ _ _ _ _ g _ _ t _ (v .0 .left)))
     (w .1 .came))
-    (λ w. rw (w .1, w .2, w .3) (storing-leave _ _ _ _ _ _ _ _ g _ (armed-behind (a .s .now) (a .plan .now) E i h _ (c .before .before .before .before .before .place .ensures .0) _ (c .before .before .before .holds .ensures) _ (c .place2 .ensures .0) (w .0 .left)) _))
+    (λ w. rw (w .1, w .2, w .3) (storing-leave _ _ _ _ _ _ _ _ g _ (armed-behind (a .s .now) (a .plan .now) E i h _ (c .before .before .before .before .before .broad .ensures .0) _ (c .before .before .before .holds .ensures) _ (c .broad2 .ensures .0) (w .0 .left)) _))
     (c .before .before .if1 .came)
 
 returns : tie.Need-returns Inv-loop μ-loop
@@ -45,4 +45,4 @@ returns c =
 pub arm-spec : {M : Type 1} → statement M
 arm-spec =
     tie.close
-    (tie.spec Inv-loop μ-loop (λ c. search needs) loop-holds (λ c. search needs) (λ c. search needs) (λ c. search needs) (λ c. search needs) (λ c κs. search needs) (λ c. search needs) (λ c κs. search needs) (λ c. search needs) (λ c. search needs) (λ c. search needs) (λ c. search needs) (λ c. search needs) (λ c. search needs) (λ c. search needs) (λ c. search needs) (λ c. search needs) (λ c. search needs) (λ c. search needs) (λ c. search needs) (λ c. search needs) (λ c κs. search needs) (λ c. search needs) (λ c. search needs) loop-again (λ c. search needs) (λ c. search needs) (λ c. search needs) returns)
+    (tie.spec Inv-loop μ-loop (λ c. search needs) loop-holds (λ c. search needs) (λ c. search needs) (λ c. search needs) (λ c. search needs) (λ c κs. search needs) (λ c. search needs) (λ c κs. search needs) (λ c. search needs) (λ c. search needs) (λ c. search needs) (λ c. search needs) (λ c κs. search needs) (λ c. search needs) (λ c. search needs) (λ c. search needs) (λ c. search needs) (λ c. search needs) (λ c. search needs) (λ c. search needs) (λ c. search needs) (λ c. search needs) (λ c κs. search needs) (λ c. search needs) (λ c. search needs) loop-again (λ c. search needs) (λ c. search needs) (λ c. search needs) returns)

@@ -14,7 +14,7 @@ after-requires c κs = c .before .before .before .before .before .before .before
 returns : tie.Need-returns
 returns c =
     let a = c .before .before .before .before .before .before .before .before .before .before .before .before .before .before .before .before .before .before .before .before .before .before .before .before .args in
-    entered-there (a .s .now) (a .plan .now) (a .run) (a .row .now) (a .variables .now) (a .values .now) _ (c .before .before .before .before .before .before .before .before .before .before .before .before .before .before .before .before .before .before .before .before .place .ensures .0) _ (c .before .before .before .before .before .before .before .before .before .before .before .before .before .before .before .before .before .before .before .front .ensures) _ (c .before .before .before .before .before .before .before .before .before .before .before .before .before .before .before .place2 .ensures .0) _ (c .before .before .before .before .before .before .before .before .before .before .before .before .before .before .front2 .ensures) (a .given .unit) _ (c .before .before .before .before .before .before .before .before .before .before .before .before .before .cell-of .ensures .0) _ _ _ (c .before .before .before .before .before .before .before .before .before .before .before .place3 .ensures .0) _ (c .before .before .before .before .before .before .before .before .before .before .find .ensures .0) (c .before .before .moved .ensures) (a .given) refl _ (c .before .before .before .before .before .before .before .before .before .wide .ensures .0) _ (c .before .before .before .before .before .before .before .before .candidate .ensures .0) _ (c .before .before .before .before .before .before .put .ensures) _ (c .before .before .before .before .arm .ensures) _ (c .after .ensures)
+    entered-there (a .s .now) (a .plan .now) (a .run) (a .row .now) (a .variables .now) (a .values .now) _ (c .before .before .before .before .before .before .before .before .before .before .before .before .before .before .before .before .before .before .before .before .broad .ensures .0) _ (c .before .before .before .before .before .before .before .before .before .before .before .before .before .before .before .before .before .before .before .front .ensures) _ (c .before .before .before .before .before .before .before .before .before .before .before .before .before .before .before .broad2 .ensures .0) _ (c .before .before .before .before .before .before .before .before .before .before .before .before .before .before .front2 .ensures) (a .given .unit) _ (c .before .before .before .before .before .before .before .before .before .before .before .before .before .cell-of .ensures .0) _ _ _ (c .before .before .before .before .before .before .before .before .before .before .before .broad3 .ensures .0) _ (c .before .before .before .before .before .before .before .before .before .before .find .ensures .0) (c .before .before .moved .ensures) (a .given) refl _ (c .before .before .before .before .before .before .before .before .before .wide .ensures .0) _ (c .before .before .before .before .before .before .before .before .candidate .ensures .0) _ (c .before .before .before .before .before .before .put .ensures) _ (c .before .before .before .before .arm .ensures) _ (c .after .ensures)
 
 pub entered-spec : {M : Type 1} → statement M
 entered-spec =

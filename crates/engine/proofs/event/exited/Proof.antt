@@ -14,7 +14,7 @@ after-requires c κs = c .before .before .before .before .before .before .before
 returns : tie.Need-returns
 returns c =
     let a = c .before .before .before .before .before .before .before .before .before .before .before .before .before .before .before .before .before .before .before .before .before .before .before .args in
-    exited-there (a .s .now) (a .plan .now) (a .run) (a .row .now) (a .variables .now) (a .values .now) _ (c .before .before .before .before .before .before .before .before .before .before .before .before .before .before .before .before .before .before .before .place .ensures .0) _ (c .before .before .before .before .before .before .before .before .before .before .before .before .before .before .before .before .before .before .front .ensures) _ (c .before .before .before .before .before .before .before .before .before .before .before .before .before .before .place2 .ensures .0) _ (c .before .before .before .before .before .before .before .before .before .before .before .before .before .front2 .ensures) (a .leaving .unit) _ (c .before .before .before .before .before .before .before .cell-of .ensures .0) _ _ _ (c .before .before .before .before .before .place3 .ensures .0) _ (c .before .before .before .before .find .ensures .0) (c .before .before .moved .ensures) (a .leaving .place) _ (c .before .before .before .before .before .before .before .before .before .before .before .lowest-failing .ensures) _ (c .before .before .before .before .before .before .before .before .before .wide .ensures .0) _ (c .before .before .before .before .before .before .before .before .close .ensures) _ (c .after .ensures)
+    exited-there (a .s .now) (a .plan .now) (a .run) (a .row .now) (a .variables .now) (a .values .now) _ (c .before .before .before .before .before .before .before .before .before .before .before .before .before .before .before .before .before .before .before .broad .ensures .0) _ (c .before .before .before .before .before .before .before .before .before .before .before .before .before .before .before .before .before .before .front .ensures) _ (c .before .before .before .before .before .before .before .before .before .before .before .before .before .before .broad2 .ensures .0) _ (c .before .before .before .before .before .before .before .before .before .before .before .before .before .front2 .ensures) (a .leaving .unit) _ (c .before .before .before .before .before .before .before .cell-of .ensures .0) _ _ _ (c .before .before .before .before .before .broad3 .ensures .0) _ (c .before .before .before .before .find .ensures .0) (c .before .before .moved .ensures) (a .leaving .place) _ (c .before .before .before .before .before .before .before .before .before .before .before .lowest-failing .ensures) _ (c .before .before .before .before .before .before .before .before .before .wide .ensures .0) _ (c .before .before .before .before .before .before .before .before .close .ensures) _ (c .after .ensures)
 
 pub exited-spec : {M : Type 1} → statement M
 exited-spec =

@@ -20,10 +20,10 @@ loop-holds : tie.Need-loop-holds Inv-loop μ-loop
 loop-holds c = refl
 
 returns : tie.Need-returns Inv-loop μ-loop
-returns c = (found-here _ _ _ _ (c .before .before .before .before .before .loop-test .taken) _ (c .before .before .before .place .ensures .0) _ (c .before .holds .ensures) (c .if1 .taken) ∙ c .before .before .before .before .before .before .loop .inv, omega (arith, c .before .before .before .before .before .loop-test .taken))
+returns c = (found-here _ _ _ _ (c .before .before .before .before .before .loop-test .taken) _ (c .before .before .before .broad .ensures .0) _ (c .before .holds .ensures) (c .if1 .taken) ∙ c .before .before .before .before .before .before .loop .inv, omega (arith, c .before .before .before .before .before .loop-test .taken))
 
 loop-again : tie.Need-loop-again Inv-loop μ-loop
-loop-again c = found-behind _ _ _ _ (c .before .before .before .before .before .before .before .loop-test .taken) _ (c .before .before .before .before .before .place .ensures .0) _ (c .before .before .before .holds .ensures) (c .before .before .if1 .left) _ (c .place2 .ensures .0) ∙ c .before .before .before .before .before .before .before .before .loop .inv
+loop-again c = found-behind _ _ _ _ (c .before .before .before .before .before .before .before .loop-test .taken) _ (c .before .before .before .before .before .broad .ensures .0) _ (c .before .before .before .holds .ensures) (c .before .before .if1 .left) _ (c .broad2 .ensures .0) ∙ c .before .before .before .before .before .before .before .before .loop .inv
 
 returns-2 : tie.Need-returns-2 Inv-loop μ-loop
 returns-2 c = (found-past _ _ _ _ (c .loop-test .left) ∙ c .before .loop .inv, omega arith)

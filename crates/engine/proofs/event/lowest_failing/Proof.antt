@@ -32,7 +32,7 @@ loop-again c =
     (c .if1 .came)
 
 returns : tie.Need-returns Inv-loop μ-loop
-returns c = judging-end _ _ _ _ _ _ _ _ _ _ (c .before .loop .inv) (c .loop-test .left) (c .before .before .four .ensures .0) _ (c .before .before .before .before .before .place .ensures .0) (c .before .before .before .before .front .ensures)
+returns c = judging-end _ _ _ _ _ _ _ _ _ _ (c .before .loop .inv) (c .loop-test .left) (c .before .before .four .ensures .0) _ (c .before .before .before .before .before .broad .ensures .0) (c .before .before .before .before .front .ensures)
 
 pub lowest-failing-spec : {M : Type 1} → statement M
 lowest-failing-spec =

@@ -10,7 +10,7 @@ returns : tie.Need-returns
 returns c =
     let a = c .before .before .before .before .before .before .args in
     let h = c .before .before .before .before .if1 .taken in
-    let e = c .before .before .place .ensures .0 in (
+    let e = c .before .before .broad .ensures .0 in (
       leads (a .s .now) (a .plan .now) (a .t) (a .main) (a .values .now) (a .variables .now) h,
       ⊎-elim
           (λ w. w .1 ∙ no-action (a .s .now) (a .plan .now) (a .t) (a .main) (a .values .now) (a .variables .now) h _ e (w .0 .taken))

@@ -5,7 +5,7 @@ use Rattle.engine.proofs.event.post.Statement.{statement}
 use Rattle.engine.proofs.event.post.Tie as tie
 
 returns : tie.Need-returns
-returns c = rw (← c .before .before .before .place .ensures .0, lt-ltb (c .before .before .before .place .result) 32 (c .before .before .if1 .taken)) (c .place2 .ensures .0)
+returns c = rw (← c .before .before .before .place .ensures .0, lt-ltb (c .before .before .before .place .result) 32 (c .before .before .if1 .taken)) (c .broad .ensures .0)
 
 returns-2 : tie.Need-returns-2
 returns-2 c = rw (← c .before .place .ensures .0, le-ltb (c .before .place .result) 32 (c .if1 .left))

@@ -16,7 +16,7 @@ loop-holds : tie.Need-loop-holds Inv-loop μ-loop
 loop-holds c = pairing-start _ _ _ _ _ _
 
 loop-again : tie.Need-loop-again Inv-loop μ-loop
-loop-again c = pairing-next _ _ _ _ _ _ _ _ _ _ (c .before .before .before .before .before .loop .inv) (c .before .before .before .before .loop-test .taken) _ (c .before .before .before .pair-at .ensures) _ (c .before .before .text .ensures) _ (c .before .word .ensures .0) _ (c .pick .ensures)
+loop-again c = pairing-next _ _ _ _ _ _ _ _ _ _ (c .before .before .before .before .before .loop .inv) (c .before .before .before .before .loop-test .taken) _ (c .before .before .before .pair-at .ensures) _ (c .before .before .text .ensures) _ (c .before .short .ensures .0) _ (c .pick .ensures)
 
 returns : tie.Need-returns Inv-loop μ-loop
 returns c =

@@ -8,7 +8,7 @@ returns : tie.Need-returns
 returns c =
     let a = c .before .before .before .before .before .before .before .before .args in
     transition-words (a .s .now) (a .conditions .now) (a .plan .now) (a .i) (a .at) (a .actions .now) _ (c .before .before .before .before .before .before .transition-at .ensures) _ (c .before .before .before .before .before .key-of .ensures .0)
-    _ (c .before .before .before .behind .ensures) _ (c .before .before .text .ensures) _ (c .before .action .ensures) _ (c .word .ensures .0)
+    _ (c .before .before .before .behind .ensures) _ (c .before .before .text .ensures) _ (c .before .action .ensures) _ (c .short .ensures .0)
 
 pub transition-spec : {M : Type 1} → statement M
 transition-spec =
