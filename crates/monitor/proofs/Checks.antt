@@ -1,6 +1,6 @@
 -- A sound call and a sound state, from what the tests of their parts answer. Assumes nothing.
 use mathlib.Core.Path.{_≡_, refl, sym, ap, ap₂, _∙_}
-use mathlib.Core.Bool.{Bool, true, _&&_}
+use mathlib.Core.Bool.{Bool, true, false, _&&_}
 use mathlib.Core.List.{List, [], _∷_, map}
 use Prim.Native.Nat.{ℕ, zero, suc, _≤_, _<_}
 use native.Mathlib.Omega.{arith}
@@ -18,6 +18,7 @@ use Rattle.sheet.proofs.Tables.{and-assoc, length-records, every-same}
 use Rattle.step.specs.declared.Call.{Call}
 use Rattle.step.specs.Lists.{beside, distinct}
 use Rattle.step.specs.Verdicts.{verdictFits, verdictIn}
+use Rattle.step.proofs.Rooms.{tidy-calls}
 use Rattle.step.specs.Padding.{clear, padded, isZeroCall}
 use Rattle.monitor.specs.declared.Arms.{Arms}
 use Rattle.monitor.specs.declared.sound.Tables.{Tables}
@@ -74,12 +75,20 @@ call-is s t (h, e) call arms long q (v, kept) w (f, g) r x u y o z =
     let m : leb (length (take (arms .count) (arms .triples))) 4 ≡ true = le-leb (length (take (arms .count) (arms .triples))) 4 (omega (arith, length-take (arms .count) (arms .triples))) in
     rw (v, x, y, z, e, f, k, m, unit-same a (call .unit) (take (arms .count) (arms .triples)), state-same a (arms .count) (arms .triples))
 
+between : (k z t a : Bool) → ((k && z) && (t && a)) ≡ (k && (t && (z && a)))
+between true true t a = refl
+between true false true a = refl
+between true false false a = refl
+between false z t a = refl
+
 -- A state's zeros, and what it shows.
 module _ (S : Sheet) (w : WatchState) (v : length (w .variables) ≡ 4) (long : length (w .calls) ≡ 16) (same : length (w .arms) ≡ 16) where
-  tidy-parts : (clear (S .common .monitors) (w .variables) && (every (λ (c : Call). padded 8 (S .common .programs) (c .kept)) (w .calls)
-      && (every tidyArms (w .arms) && (every isZeroCall (drop (w .opened) (w .calls)) && every isZeroArms (drop (w .opened) (w .arms)))))) ≡ tidy S w
+  tidy-parts : (clear (S .common .monitors) (w .variables) && ((every (λ (c : Call). padded 8 (S .common .programs) (c .kept)) (take (w .opened) (w .calls)) && every (λ (c : Call). padded 8 0 (c .kept) && isZeroCall c) (drop (w .opened) (w .calls)))
+      && (every tidyArms (w .arms) && every isZeroArms (drop (w .opened) (w .arms))))) ≡ tidy S w
   unfolding tidy
-  tidy-parts = rw (eq-eqb (length (w .variables)) 4 v, eq-eqb (length (w .calls)) 16 long, eq-eqb (length (w .arms)) 16 same)
+  tidy-parts =
+      rw (tidy-calls (S .common .programs) (w .opened) (w .calls), eq-eqb (length (w .variables)) 4 v, eq-eqb (length (w .calls)) 16 long, eq-eqb (length (w .arms)) 16 same)
+      (ap (λ (b : Bool). clear (S .common .monitors) (w .variables) && b) (between (every (λ (c : Call). padded 8 (S .common .programs) (c .kept)) (w .calls)) (every isZeroCall (drop (w .opened) (w .calls))) (every tidyArms (w .arms)) (every isZeroArms (drop (w .opened) (w .arms)))))
 
   abbrev row : List Armed
   row = beside (shown (S .common .programs)) (take (w .opened) (w .calls)) (take (w .opened) (w .arms))
@@ -104,14 +113,14 @@ pub sound-is : (s : List ℕ) (t : Tables) → (reading sheetLayout s ≡ 0) × 
     → (w : WatchState) (o : ℕ) → (o ≡ w .opened) × (length (w .variables) ≡ 4) × (length (w .calls) ≡ 16) × (length (w .arms) ≡ 16)
     → (m : ℕ) → (m ≡ t .header .monitors) × (m < 256) → (p : ℕ) → (p ≡ t .header .programs) × (p < 256)
     → (b₁ : Bool) → b₁ ≡ clear m (w .variables)
-    → (b₂ : Bool) → b₂ ≡ every (λ (c : Call). padded 8 p (c .kept)) (w .calls)
-    → (b₃ : Bool) → b₃ ≡ every tidyArms (w .arms)
-    → (b₄ : Bool) → b₄ ≡ every isZeroCall (drop o (w .calls))
+    → (b₂ : Bool) → b₂ ≡ every (λ (c : Call). padded 8 p (c .kept)) (take o (w .calls))
+    → (b₃ : Bool) → b₃ ≡ every (λ (c : Call). padded 8 0 (c .kept) && isZeroCall c) (drop o (w .calls))
+    → (b₄ : Bool) → b₄ ≡ every tidyArms (w .arms)
     → (b₅ : Bool) → b₅ ≡ every isZeroArms (drop o (w .arms))
     → (b₆ : Bool) → b₆ ≡ distinct (map (λ (c : Call). c .number) (take o (w .calls)))
     → (b₇ : Bool) → b₇ ≡ every (callSound (sheetOf s)) (beside (shown (t .header .programs)) (take o (w .calls)) (take o (w .arms)))
     → (b₈ : Bool) → b₈ ≡ verdictFits (t .header .bad) (t .header .last) (w .main) (w .position) (verdictIn (w .outcome))
-    → (leb o 16 && ((b₁ && (b₂ && (b₃ && (b₄ && b₅)))) && (ltb (w .main) (t .header .states) && ((b₆ && b₇) && b₈)))) ≡ soundState (sheetOf s) w
+    → (leb o 16 && ((b₁ && ((b₂ && b₃) && (b₄ && b₅))) && (ltb (w .main) (t .header .states) && ((b₆ && b₇) && b₈)))) ≡ soundState (sheetOf s) w
 unfolding soundState sheetOf commonOf
 sound-is s t (h, e) w o (f, v, long, same) m (g, mm) p (k, pp) b₁ e₁ b₂ e₂ b₃ e₃ b₄ e₄ b₅ e₅ b₆ e₆ b₇ e₇ b₈ e₈ =
     let a = accepted sheetLayout s h in

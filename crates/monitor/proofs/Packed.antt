@@ -18,7 +18,7 @@ use Rattle.sheet.specs.Answer.{headerOf}
 use Rattle.sheet.specs.Decode.{transitionForm, lastAt, commonOf, sheetOf}
 use Rattle.sheet.specs.Reading.{reading, sheetLayout, lastOf}
 use Rattle.sheet.proofs.Accepted.{Accepted, accepted}
-use Rattle.sheet.proofs.Limits.{sheet-longest, table-places}
+use Rattle.sheet.proofs.Limits.{sheet-longest}
 use Rattle.sheet.proofs.Tables.{and-parts, and-both, every-weaker, every-append}
 use Rattle.sheet.proofs.Tests.{and-iff, eqb-iff, leb-iff}
 use Rattle.step.specs.declared.Call.{Call}
@@ -313,10 +313,7 @@ sound-opened S w h = let (few, rest) = simp (and-iff, leb-iff) at h in few
 
 module _ (s plan : List ℕ) (pre : (reading sheetLayout s ≡ 0) × (plan ≡ sheetPlan s)) where
   begins : getD plan 5 0 ≡ lastAt transitionForm s
-  begins = ap (λ (p : List ℕ). getD p 5 0) (pre .1) ∙ sheet-planned (accepted sheetLayout s (pre .0)) .begins
-
-  pub triples-near : getD plan 5 0 < 65536
-  triples-near = rw begins (omega (arith, table-places (accepted sheetLayout s (pre .0)) 65536 (omega (arith, sheet-longest s (pre .0))) .1))
+  begins = ap (λ (p : List ℕ). getD p 5 0) (pre .1) ∙ sheet-planned (accepted sheetLayout s (pre .0)) (omega (arith, sheet-longest s (pre .0))) .begins
 
   pub tables-there : (t : Tables) → t ≡ record { header = headerOf s; triples = getD plan 5 0 } → t ≡ tablesOf s
   tables-there t e = e ∙ (λ i. record { header = headerOf s; triples = begins i })

@@ -19,7 +19,7 @@ use step::Answer;
 
 pub(crate) fn offer_accepted(
     s: &[u8],
-    plan: &[u32; PLAN],
+    plan: &[u16; PLAN],
     state: WatchState,
     event: Record,
     values: &[u32],
@@ -40,7 +40,7 @@ pub(crate) fn offer_accepted(
 
 fn offer_sound(
     s: &[u8],
-    plan: &[u32; PLAN],
+    plan: &[u16; PLAN],
     state: WatchState,
     event: Record,
     values: &[u32],

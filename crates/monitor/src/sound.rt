@@ -25,13 +25,12 @@ pub struct Tables {
     pub triples: u16,
 }
 
-pub(crate) fn tables_of(s: &[u8], triples: u32) -> Tables
-    requires { ⌜ triples < 65536 ⌝ }
+pub(crate) fn tables_of(s: &[u8], triples: u16) -> Tables
     ensures { λ r. ⌜ r ≡ record { header = headerOf (now (s .entry)); triples = triples } ⌝ }
 {
     Tables {
         header: sheet::header_of(s),
-        triples: triples as u16,
+        triples,
     }
 }
 
@@ -45,10 +44,10 @@ pub(crate) fn sound(s: &[u8], t: Tables, state: WatchState) -> bool
     let outcome = state.outcome;
     let calls = state.calls;
     let arms = state.arms;
+    let calls_tidy = step::rows::kept_clear(calls, opened, wide(h.programs))
+        & step::rows::calls_clear(calls, opened);
     let tidy = step::rows::clear_from(&variables, wide(h.monitors))
-        & (step::rows::kept_clear(calls, wide(h.programs))
-            & (arms_tidy(arms)
-                & (step::rows::calls_clear(calls, opened) & arms_clear(arms, opened))));
+        & (calls_tidy & (arms_tidy(arms) & arms_clear(arms, opened)));
     let row = step::rows::numbers_distinct(calls, opened) & calls_sound(s, t, calls, arms, opened);
     let rest = step::outcomes::outcome_fits(h.bad, h.last, state.main, state.position, outcome);
     (opened <= 16) & (tidy & ((state.main < h.states) & (row & rest)))

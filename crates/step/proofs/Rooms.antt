@@ -1,6 +1,6 @@
 -- Arrays with room behind what is there: what goes in comes out again, and what stands there goes in again. Assumes nothing.
 use mathlib.Core.Path.{_≡_, refl, sym, ap, ap₂, _∙_}
-use mathlib.Core.Bool.{Bool, true, _&&_}
+use mathlib.Core.Bool.{Bool, true, false, _&&_}
 use mathlib.Core.Option.{Option, none, some}
 use mathlib.Core.List.{List, [], _∷_, _++_, map, append-nil, map-append, map-map}
 use Prim.Native.Nat.{ℕ, zero, suc, _+_, _≤_, _<_}
@@ -10,7 +10,7 @@ use lib.Dec.{eqb}
 use lib.ListN.{length, getD, set, take, drop, length-append, length-map}
 use lib.Seq.{sets, append-snoc, take-suc, take-all, length-take-le}
 use Rattle.sheet.specs.Table.{every, fit}
-use Rattle.sheet.proofs.Tables.{and-parts, and-both}
+use Rattle.sheet.proofs.Tables.{and-parts, and-both, and-assoc}
 use Rattle.sheet.proofs.Tests.{and-iff, eqb-iff}
 use Rattle.step.specs.declared.Call.{Call}
 use Rattle.step.specs.declared.Verdict.{Verdict}
@@ -186,6 +186,44 @@ module _ (P : ℕ) where
       ap (map (unpad P)) (take-fitted zeroCall 16 (length l) (map padCall l) (length-map l padCall) room)
       ∙ map-map (unpad P) padCall l
       ∙ map-same (λ (c : Calls.Call). eqb (length (c .kept)) P) (λ c. unpad P (padCall c)) (call-back few) l h
+
+-- A row of calls is tidy if those that are open keep zeros behind their values, and from there on there is none.
+exchanged : (a b c d : Bool) → ((a && b) && (c && d)) ≡ ((a && c) && (b && d))
+exchanged true true c d = refl
+exchanged true false true d = refl
+exchanged true false false d = refl
+exchanged false b c d = refl
+
+never : (b : Bool) → (b && false) ≡ false
+never true = refl
+never false = refl
+
+no-call : (P : ℕ) (c : Call) → (padded 8 0 (c .kept) && isZeroCall c) ≡ (padded 8 P (c .kept) && isZeroCall c)
+unfolding clear
+no-call P c = go (eqb (length (c .kept)) 8) (eqb (c .number) 0) (eqb (c .unit) 0) (every (λ x. eqb x 0) (c .kept)) refl
+  where
+    go : (l n u b : Bool) → every (λ x. eqb x 0) (c .kept) ≡ b → ((l && b) && (n && (u && b))) ≡ ((l && every (λ x. eqb x 0) (drop P (c .kept))) && (n && (u && b)))
+    go l n u true e = rw (every-drop (λ x. eqb x 0) P (c .kept) e)
+    go false n u false e = refl
+    go true true true false e = sym (never (every (λ x. eqb x 0) (drop P (c .kept))))
+    go true true false false e = sym (never (every (λ x. eqb x 0) (drop P (c .kept))))
+    go true false u false e = sym (never (every (λ x. eqb x 0) (drop P (c .kept))))
+
+pub no-call-is : (c : Call) (r b : Bool) → (r ≡ isZeroCall c) × (length (c .kept) ≡ 8) → r ≡ b → (padded 8 0 (c .kept) && isZeroCall c) ≡ b
+no-call-is c r b f e = rw (f .1) (go (eqb (c .number) 0) (eqb (c .unit) 0) (clear 0 (c .kept)) ∙ sym (f .0) ∙ e)
+  where
+    go : (n u z : Bool) → ((eqb 8 8 && z) && (n && (u && z))) ≡ (n && (u && z))
+    go n u true = refl
+    go true true false = refl
+    go true false false = refl
+    go false u false = refl
+
+pub tidy-calls : (P n : ℕ) (l : List Call) → (every (λ (c : Call). padded 8 P (c .kept)) (take n l) && every (λ (c : Call). padded 8 0 (c .kept) && isZeroCall c) (drop n l)) ≡ (every (λ (c : Call). padded 8 P (c .kept)) l && every isZeroCall (drop n l))
+unfolding every
+tidy-calls P zero [] = refl
+tidy-calls P zero (c ∷ l) = ap₂ (λ (x y : Bool). x && y) (no-call P c) (tidy-calls P zero l) ∙ exchanged (padded 8 P (c .kept)) (isZeroCall c) (every (λ (c : Call). padded 8 P (c .kept)) l) (every isZeroCall l)
+tidy-calls P (suc n) [] = refl
+tidy-calls P (suc n) (c ∷ l) = and-assoc (padded 8 P (c .kept)) _ _ ∙ ap (λ (b : Bool). padded 8 P (c .kept) && b) (tidy-calls P n l) ∙ sym (and-assoc (padded 8 P (c .kept)) _ _)
 
 -- An outcome and the verdict in it.
 pub outcome-verdict : (o : Outcome) → outcomeOf (verdictIn o) ≡ o

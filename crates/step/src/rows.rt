@@ -1,7 +1,7 @@
 // Rows of calls: the first `opened` of sixteen places, with zeros behind them.
 
 ghost use mathlib.Core.Path.{_≡_};
-ghost use mathlib.Core.Bool.{not};
+ghost use mathlib.Core.Bool.{not, _&&_};
 ghost use mathlib.Core.List.{map};
 ghost use Prim.Native.Nat.{_≤_};
 ghost use lib.Dec.{eqb};
@@ -96,7 +96,7 @@ fn keeps_clear(call: Call, from: usize) -> bool
 
 // Whether it is the place of no call.
 fn is_no_call(call: Call) -> bool
-    ensures { λ r. ⌜ r ≡ isZeroCall call ⌝ }
+    ensures { λ r. ⌜ (r ≡ isZeroCall call) × (length (call .kept) ≡ 8) ⌝ }
 {
     let clear = keeps_clear(call, 0);
     (call.number == 0) & ((call.unit == 0) & clear)
@@ -122,7 +122,7 @@ pub fn kept_clear(calls: [Call; 16], opened: usize, from: usize) -> bool
 
 // Whether there is no call from a place on.
 pub fn calls_clear(calls: [Call; 16], from: usize) -> bool
-    ensures { λ r. ⌜ r ≡ every isZeroCall (drop from calls) ⌝ }
+    ensures { λ r. ⌜ r ≡ every (λ c. padded 8 0 (c .kept) && isZeroCall c) (drop from calls) ⌝ }
 {
     let mut i = from;
     while i < 16 {

@@ -2,12 +2,9 @@
 use mathlib.Core.Path.{sym, _∙_}
 use borrow.Author.Needs.{needs}
 use Rattle.monitor.proofs.Answering.{unsound}
-use Rattle.monitor.proofs.Packed.{triples-near, tables-there}
+use Rattle.monitor.proofs.Packed.{tables-there}
 use Rattle.monitor.proofs.accepted.offer_accepted.Statement.{statement}
 use Rattle.monitor.proofs.accepted.offer_accepted.Tie as tie
-
-tables-of-requires : tie.Need-tables-of-requires
-tables-of-requires c κs = triples-near _ _ (c .before .before .before .pre)
 
 sound-requires : tie.Need-sound-requires
 sound-requires c κs = (c .before .before .before .before .pre .0, tables-there _ _ (c .before .before .before .before .pre) _ (c .tables-of .ensures))
@@ -23,4 +20,4 @@ returns-2 c =
 pub offer-accepted-spec : {M : Type 1} → statement M
 offer-accepted-spec =
     tie.close
-    (tie.spec (λ c. search needs) tables-of-requires sound-requires offer-sound-requires (λ c. search needs) returns-2)
+    (tie.spec (λ c. search needs) (λ c κs. search needs) sound-requires offer-sound-requires (λ c. search needs) returns-2)

@@ -1,10 +1,9 @@
 -- `rows::numbers_of` meets its contract. Assumes nothing.
 use mathlib.Core.Path.{_≡_}
-use mathlib.Core.List.{map}
 use Prim.Native.Nat.{ℕ, _-_}
 use borrow.Author.Needs.{needs}
 use native.Mathlib.Omega.{arith}
-use lib.ListN.{length, take}
+use lib.ListN.{length}
 use Rattle.sheet.specs.Table.{fit}
 use Rattle.step.specs.declared.Call.{Call}
 use Rattle.step.proofs.Rooms.{Made, made-start, made-next, made-end}
