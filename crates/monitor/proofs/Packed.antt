@@ -12,10 +12,9 @@ use lib.Seq.{take-at, take-all, take-suc, drop-append-add}
 use Rattle.sheet.specs.Table.{every, fit}
 use Rattle.sheet.specs.Parts.{Sheet}
 use Rattle.sheet.specs.Log.{Event}
-use Rattle.sheet.specs.declared.Header.{Header}
 use Rattle.sheet.specs.declared.Record.{Record}
 use Rattle.sheet.specs.Answer.{headerOf}
-use Rattle.sheet.specs.Decode.{transitionForm, lastAt, commonOf, sheetOf}
+use Rattle.sheet.specs.Decode.{transitionForm, lastAt, sheetOf}
 use Rattle.sheet.specs.Reading.{reading, sheetLayout, lastOf}
 use Rattle.sheet.proofs.Accepted.{Accepted, accepted}
 use Rattle.sheet.proofs.Limits.{sheet-longest}
@@ -298,12 +297,14 @@ module _ (s plan : List ℕ) (w : WatchState) (event : Record) (values : List �
 
   pub offer-taken : next .answer ≡ 0 → (row₁ variables₁ : List ℕ)
       → (row₁ ≡ offerIn s plan (words run row (w .variables)) given eight .state .row) × (variables₁ ≡ offerIn s plan (words run row (w .variables)) given eight .state .variables)
-      → (h : Header) → h ≡ headerOf s → (programs monitors : ℕ) → programs ≡ h .programs → monitors ≡ h .monitors → (state : WatchState) → state ≡ unpacked programs monitors (words (next .run) row₁ variables₁)
-      → offeredWith Answer.Taken state ≡ offerOf s w (eventOf event values)
-  unfolding sheetOf commonOf
-  offer-taken z row₁ variables₁ (e₁, e₂) h eh programs monitors ep em state es =
+      → (programs monitors : ℕ) → programs ≡ getD plan 1 0 → monitors ≡ getD plan 2 0 → (state : WatchState) → state ≡ unpacked programs monitors (words (next .run) row₁ variables₁) → offeredWith Answer.Taken state ≡ offerOf s w (eventOf event values)
+  unfolding ofSheet
+  offer-taken z row₁ variables₁ (e₁, e₂) programs monitors ep em state es =
+      let c = carried s (pre .0) w (pre .2) row (ew .0) (ew .2) (eventOf event values) in
+      let lent : programs ≡ sheetOf s .common .programs = ep ∙ ap (λ (p : List ℕ). getD p 1 0) (pre .1) ∙ c .programs in
+      let held : monitors ≡ sheetOf s .common .monitors = em ∙ ap (λ (p : List ℕ). getD p 2 0) (pre .1) ∙ c .monitors in
       let words-after : words (next .run) row₁ variables₁ ≡ after .state = (λ i. words (en i .run) (e₁ i) (e₂ i)) ∙ ap (λ (o : Offered Words). o .state) came in
-      let made : state ≡ unpacked (headerOf s .programs) (headerOf s .monitors) (after .state) = es ∙ (λ i. unpacked ((ep ∙ ap (λ (x : Header). x .programs) eh) i) ((em ∙ ap (λ (x : Header). x .monitors) eh) i) (words-after i)) in
+      let made : state ≡ unpacked (sheetOf s .common .programs) (sheetOf s .common .monitors) (after .state) = es ∙ (λ i. unpacked (lent i) (held i) (words-after i)) in
       offer-takes s w event values (pre .0) (pre .2) (next .answer) answered z state (made ∙ state-there s (pre .0) w (pre .2) row (ew .0) (ew .2) (eventOf event values) (ew .1) (eg .1) (eg .2))
 
 -- At most sixteen calls of a sound state are open, and the triples of an accepted sheet begin where its plan says.

@@ -67,6 +67,14 @@ module _ (s : List ℕ) (at k a w : ℕ) (t : Triple) (e : (a ≡ at) × (a < 65
   pub state-is : (j : ℕ) (u : Triple) → u ≡ tripleAt s at j → (b : Bool) → eqb (t .state) (u .state) ≡ b → eqb (tripleAt s at k .state) (tripleAt s at j .state) ≡ b
   state-is j u r b h = ap₂ (λ (x y : Triple). eqb (x .state) (y .state)) (sym triple-read) (sym r) ∙ h
 
+-- one is of its own
+pub one-state : (f : ℕ → ℕ) (n : ℕ) (l : List ℕ) → n < 2 → true ≡ every (λ i. eqb (f i) (f (getD l 0 0))) (take n l)
+unfolding every
+one-state f zero l h = refl
+one-state f (suc zero) [] h = refl
+one-state f (suc zero) (x ∷ l) h = rw (eq-eqb (f x) (f x) refl)
+one-state f (suc (suc n)) l h = absurd (omega arith)
+
 -- What is armed for a call, by its count and what stands behind it.
 pub tidy-is : (a : Arms) (w : ℕ) (r : Bool) → (w ≡ a .count) × (w < 256) → r ≡ clear w (a .triples) → length (a .triples) ≡ 4 → (leb w 4 && r) ≡ tidyArms a
 tidy-is a w r e f l = rw (f, e .0, eq-eqb (length (a .triples)) 4 l)

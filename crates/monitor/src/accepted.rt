@@ -48,7 +48,6 @@ fn offer_sound(
     requires { ⌜ (reading sheetLayout (now s) ≡ 0) × (now plan ≡ sheetPlan (now s)) × (soundState (sheetOf (now s)) state ≡ true) ⌝ }
     ensures { λ r. ⌜ r ≡ offerOf (now (s .entry)) state (eventOf event (now (values .entry))) ⌝ }
 {
-    let h = sheet::header_of(s);
     let given = engine::pack::given(event, values);
     let eight = step::rows::eight(values);
     let run = pack::running(state);
@@ -56,8 +55,8 @@ fn offer_sound(
     let mut variables = state.variables;
     let next = engine::advance(s, plan, run, &mut row, &mut variables, given, &eight);
     if next.answer == 0 {
-        let programs = sound::wide(h.programs);
-        let monitors = sound::wide(h.monitors);
+        let programs = sound::broad(plan[1]);
+        let monitors = sound::broad(plan[2]);
         Offered {
             answer: Answer::Taken,
             state: pack::unpack(next.run, &row, &variables, programs, monitors),

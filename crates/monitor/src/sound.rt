@@ -190,10 +190,14 @@ fn of_unit(s: &[u8], at: u16, n: u8, triples: [u8; 4], count: usize, unit: u8) -
     true
 }
 
-// Whether the triples of the first `count` of four numbers are of one state, that of the first.
+// Whether the triples of the first `count` of four numbers are of one state, that of the first. One
+// is of its own.
 fn of_one_state(s: &[u8], at: u16, triples: [u8; 4], count: usize) -> bool
     ensures { λ r. ⌜ r ≡ every (λ i. eqb (tripleAt (now (s .entry)) at i .state) (tripleAt (now (s .entry)) at (getD triples 0 0) .state)) (take count triples) ⌝ }
 {
+    if count < 2 {
+        return true;
+    }
     let first = sheet::triple_at(s, long(at) + 4 * word(triples[0]));
     let mut i = 0;
     while i < count {
@@ -226,4 +230,10 @@ fn long(x: u16) -> u32
     ensures { λ r. ⌜ (r ≡ x) × (r < 65536) ⌝ }
 {
     x as u32
+}
+
+pub(crate) fn broad(x: u16) -> usize
+    ensures { λ r. ⌜ (r ≡ x) × (r < 65536) ⌝ }
+{
+    x as usize
 }

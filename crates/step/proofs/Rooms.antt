@@ -1,14 +1,15 @@
 -- Arrays with room behind what is there: what goes in comes out again, and what stands there goes in again. Assumes nothing.
 use mathlib.Core.Path.{_≡_, refl, sym, ap, ap₂, _∙_}
-use mathlib.Core.Bool.{Bool, true, false, _&&_}
+use mathlib.Core.Bool.{Bool, true, false, cond, _&&_}
 use mathlib.Core.Option.{Option, none, some}
 use mathlib.Core.List.{List, [], _∷_, _++_, map, append-nil, map-append, map-map}
-use Prim.Native.Nat.{ℕ, zero, suc, _+_, _≤_, _<_}
+use Prim.Native.Nat.{ℕ, zero, suc, _+_, _-_, _≤_, _<_}
 use native.Mathlib.Numerals.{add-one}
 use native.Mathlib.Omega.{arith}
-use lib.Dec.{eqb}
-use lib.ListN.{length, getD, set, take, drop, length-append, length-map}
-use lib.Seq.{sets, append-snoc, take-suc, take-all, length-take-le}
+use borrow.Author.Tests.{ltb-true, ltb-false}
+use lib.Dec.{eqb, ltb}
+use lib.ListN.{length, getD, set, take, drop, drop-of-length-le, length-append, length-map}
+use lib.Seq.{sets, append-snoc, take-suc, take-all, length-take-le, drop-cons, drop-nil}
 use Rattle.sheet.specs.Table.{every, fit}
 use Rattle.sheet.proofs.Tables.{and-parts, and-both, and-assoc}
 use Rattle.sheet.proofs.Tests.{and-iff, eqb-iff}
@@ -138,6 +139,42 @@ unfolding clear
 fit-padded size n l e c =
     let long : length l ≡ size = simp eqb-iff at e in
     rw (← long) (fit-take 0 (λ x. eqb x 0) is-zero n l c)
+
+-- the same of one value after another
+abbrev zeros : ℕ → ℕ → List ℕ → Bool
+zeros from i [] = true
+zeros from i (x ∷ l) = cond (ltb i from) true (eqb x 0) && zeros from (suc i) l
+
+zeros-clear : (from i : ℕ) (l : List ℕ) → zeros from i l ≡ every (λ x. eqb x 0) (drop (from - i) l)
+unfolding every
+zeros-clear from i [] = ap (every (λ x. eqb x 0)) (sym (drop-nil (from - i)))
+zeros-clear from i (x ∷ l) = go (ltb i from) refl (zeros-clear from (suc i) l)
+  where
+    go : (b : Bool) → ltb i from ≡ b → zeros from (suc i) l ≡ every (λ x. eqb x 0) (drop (from - suc i) l) → (cond b true (eqb x 0) && zeros from (suc i) l) ≡ every (λ x. eqb x 0) (drop (from - i) (x ∷ l))
+    go true e k =
+        let less : from - i ≡ suc (from - suc i) = omega (arith, ltb-true i from e) in
+        k ∙ ap (λ (n : ℕ). every (λ x. eqb x 0) (drop n (x ∷ l))) (sym less)
+    go false e k =
+        let here : from - i ≡ 0 = omega (arith, ltb-false i from e) in
+        let next : from - suc i ≡ 0 = omega (arith, ltb-false i from e) in
+        ap (λ (b : Bool). eqb x 0 && b) (k ∙ ap (λ (n : ℕ). every (λ x. eqb x 0) (drop n l)) next) ∙ ap (λ (n : ℕ). every (λ x. eqb x 0) (drop n (x ∷ l))) (sym here)
+
+pub eight-clear : (from : ℕ) (k : List ℕ) → length k ≡ 8 → (b₀ b₁ b₂ b₃ b₄ b₅ b₆ b₇ : Bool) → b₀ ≡ cond (ltb 0 from) true (eqb (getD k 0 0) 0) → b₁ ≡ cond (ltb 1 from) true (eqb (getD k 1 0) 0) → b₂ ≡ cond (ltb 2 from) true (eqb (getD k 2 0) 0)
+    → b₃ ≡ cond (ltb 3 from) true (eqb (getD k 3 0) 0) → b₄ ≡ cond (ltb 4 from) true (eqb (getD k 4 0) 0) → b₅ ≡ cond (ltb 5 from) true (eqb (getD k 5 0) 0) → b₆ ≡ cond (ltb 6 from) true (eqb (getD k 6 0) 0) → b₇ ≡ cond (ltb 7 from) true (eqb (getD k 7 0) 0)
+    → (b₀ && (b₁ && (b₂ && (b₃ && (b₄ && (b₅ && (b₆ && b₇))))))) ≡ clear from k
+unfolding clear
+eight-clear from k h b₀ b₁ b₂ b₃ b₄ b₅ b₆ b₇ e₀ e₁ e₂ e₃ e₄ e₅ e₆ e₇ =
+    let t : ℕ → Bool = λ i. cond (ltb i from) true (eqb (getD k i 0) 0) in
+    let step : (i : ℕ) → i < 8 → zeros from i (drop i k) ≡ (t i && zeros from (suc i) (drop (suc i) k)) = λ i l. ap (zeros from i) (drop-cons k i 0 (omega arith)) in
+    let on : (i : ℕ) → Bool → Bool = λ i b. t i && b in
+    let last : zeros from 8 (drop 8 k) ≡ true = ap (zeros from 8) (drop-of-length-le k {i = 8} (omega arith)) in
+    let whole : zeros from 0 k ≡ on 0 (on 1 (on 2 (on 3 (on 4 (on 5 (on 6 (on 7 true))))))) = step 0 (omega arith) ∙ ap (on 0) (step 1 (omega arith) ∙ ap (on 1) (step 2 (omega arith) ∙ ap (on 2) (step 3 (omega arith) ∙ ap (on 3) (step 4 (omega arith) ∙ ap (on 4) (step 5 (omega arith) ∙ ap (on 5) (step 6 (omega arith) ∙ ap (on 6) (step 7 (omega arith) ∙ ap (on 7) last))))))) in
+    (λ i. e₀ i && (e₁ i && (e₂ i && (e₃ i && (e₄ i && (e₅ i && (e₆ i && (e₇ ∙ all (t 7)) i)))))))
+    ∙ sym whole ∙ zeros-clear from 0 k ∙ ap (λ (n : ℕ). every (λ x. eqb x 0) (drop n k)) {x = from - 0} {y = from} (omega arith)
+  where
+    all : (b : Bool) → b ≡ (b && true)
+    all true = refl
+    all false = refl
 
 -- the first four of eight words
 abbrev pub four : List ℕ → List ℕ

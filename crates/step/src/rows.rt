@@ -1,7 +1,7 @@
 // Rows of calls: the first `opened` of sixteen places, with zeros behind them.
 
 ghost use mathlib.Core.Path.{_≡_};
-ghost use mathlib.Core.Bool.{not, _&&_};
+ghost use mathlib.Core.Bool.{true, not, cond, _&&_};
 ghost use mathlib.Core.List.{map};
 ghost use Prim.Native.Nat.{_≤_};
 ghost use lib.Dec.{eqb};
@@ -91,7 +91,21 @@ pub fn clear_from(values: &[u32], from: usize) -> bool
 fn keeps_clear(call: Call, from: usize) -> bool
     ensures { λ r. ⌜ (r ≡ clear from (call .kept)) × (length (call .kept) ≡ 8) ⌝ }
 {
-    clear_from(&call.kept, from)
+    let k = call.kept;
+    zero_from(0 < from, k[0])
+        & (zero_from(1 < from, k[1])
+            & (zero_from(2 < from, k[2])
+                & (zero_from(3 < from, k[3])
+                    & (zero_from(4 < from, k[4])
+                        & (zero_from(5 < from, k[5])
+                            & (zero_from(6 < from, k[6]) & zero_from(7 < from, k[7])))))))
+}
+
+// Whether a value that is not one of the first is zero.
+fn zero_from(first: bool, n: u32) -> bool
+    ensures { λ r. ⌜ r ≡ cond first true (eqb n 0) ⌝ }
+{
+    if first { true } else { n == 0 }
 }
 
 // Whether it is the place of no call.
