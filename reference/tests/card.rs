@@ -1,18 +1,18 @@
 //! Networks of version 3: writing them, reading them, and what runs on them give.
 
-use reference::draft::{NetworkDraft, SheetDraft};
-use reference::engine::Engine;
-use reference::expr::Lent;
-use reference::generate::{self, Size};
-use reference::machine::Transition;
-use reference::network::{Network, Version};
-use reference::random::Random;
-use reference::run::{run, run_network, run_sheet, write_log};
-use reference::sheet::Sheet;
-use reference::sheet_cases::{CARD_A, LOG_A, SHEET_A};
-use reference::state::NetworkState;
-use reference::translate::{translate, translate_card, BUFFER, CARD_BUFFER};
-use reference::Refusal;
+use reference::implementation::engine::Engine;
+use reference::implementation::expr::Lent;
+use reference::implementation::machine::Transition;
+use reference::implementation::network::{Network, Version};
+use reference::implementation::refusal::Refusal;
+use reference::implementation::run::{run, run_network, run_sheet, write_log};
+use reference::implementation::sheet::Sheet;
+use reference::implementation::state::NetworkState;
+use reference::implementation::translate::{translate, translate_card, BUFFER, CARD_BUFFER};
+use reference::making::cases::sheet_cases::{CARD_A, LOG_A, SHEET_A};
+use reference::making::draft::{NetworkDraft, SheetDraft};
+use reference::making::generate::{self, Size};
+use reference::making::random::Random;
 
 const FILL: u8 = 0xEE;
 
@@ -195,7 +195,10 @@ fn under_any_values_at_most_one_condition_holds() {
     assert!(one > 1_000 && several > 1_000, "{one} {several}");
 }
 
-fn states<E: Engine>(engine: &E, records: &[reference::run::Record]) -> Vec<E::State> {
+fn states<E: Engine>(
+    engine: &E,
+    records: &[reference::implementation::run::Record],
+) -> Vec<E::State> {
     let mut states = vec![engine.fresh()];
     for record in records {
         match engine.event(&states[states.len() - 1], &record.event()) {

@@ -1,11 +1,11 @@
 //! The evaluator on its own, through the cases of `condition_cases`.
 
-use reference::condition_cases;
-use reference::expr::{self, Lent};
-use reference::frames::{read_frames, Kind};
-use reference::pages::PAGE;
-use reference::programs;
-use reference::Refusal;
+use reference::framing::condition_frames::{read_frames, Kind};
+use reference::framing::pages::PAGE;
+use reference::implementation::expr::{self, Lent};
+use reference::implementation::refusal::Refusal;
+use reference::making::cases::condition_cases;
+use reference::making::programs;
 
 const NOTHING: Lent = Lent {
     program: &[],

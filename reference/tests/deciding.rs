@@ -1,17 +1,19 @@
 //! What decides in the cases of `cases`, `monitor_cases` and `network_cases`: the last of the values
 //! and variables, each byte of the numbers, units 8 to 15, every order of four exits.
 
-use reference::deciding::{
+use reference::counting::deciding::{
     named, of_log, of_script, of_steps, wanted_of_events, wanted_of_runs, wanted_orders,
 };
-use reference::draft::SheetDraft;
-use reference::network::Network;
-use reference::program::split;
-use reference::run::write_log;
-use reference::script::{entry, exit};
-use reference::sheet::Sheet;
-use reference::tally::{of_input, wanted, wanted_of_version_3, Tally};
-use reference::{monitor_cases, network_cases, program_cases};
+use reference::counting::tally::{of_input, wanted, wanted_of_version_3, Tally};
+use reference::implementation::network::Network;
+use reference::implementation::program::split;
+use reference::implementation::run::write_log;
+use reference::implementation::sheet::Sheet;
+use reference::making::cases::program_cases;
+use reference::making::draft::SheetDraft;
+use reference::making::scripts::monitor_cases;
+use reference::making::scripts::network_cases;
+use reference::making::scripts::script::{entry, exit};
 
 fn assert_none_missing(tally: &Tally, wanted: impl Iterator<Item = String>) {
     println!("{}", tally.lines().join("\n"));

@@ -5,19 +5,19 @@
 mod committed;
 
 use committed::{add, assert_shown, committed, Counts};
-use reference::draft::SheetDraft;
-use reference::ends::{wanted, Operator, Stop, Turned, Written};
-use reference::expr::{self, Action, Assignment, Condition, Lent, Value};
-use reference::frames::{self, Kind};
-use reference::machine;
-use reference::monitor_frames::Arms;
-use reference::network::Network;
-use reference::network_frames::Checkers;
-use reference::pages::PAGE;
-use reference::run::run;
-use reference::script_frames::{read_page, Bench, Frame, Own};
-use reference::sheet::Sheet;
-use reference::tally;
+use reference::counting::ends::{wanted, Operator, Stop, Turned, Written};
+use reference::counting::tally;
+use reference::framing::condition_frames::{self, Kind};
+use reference::framing::monitor_frames::Arms;
+use reference::framing::network_frames::Checkers;
+use reference::framing::pages::PAGE;
+use reference::framing::script_frames::{read_page, Bench, Frame, Own};
+use reference::implementation::expr::{self, Action, Assignment, Condition, Lent, Value};
+use reference::implementation::machine;
+use reference::implementation::network::Network;
+use reference::implementation::run::run;
+use reference::implementation::sheet::Sheet;
+use reference::making::draft::SheetDraft;
 use std::fs;
 
 const NOTHING: Lent = Lent {
@@ -212,7 +212,7 @@ fn all_of_it_is_wanted() {
 // ---- condition_cases --------------------------------------------------------------------------
 
 /// The answer where an operator turns round at an end.
-fn turned_answer(stop: Stop, frame: &frames::Frame) -> Option<String> {
+fn turned_answer(stop: Stop, frame: &condition_frames::Frame) -> Option<String> {
     let lent = Lent {
         program: &frame.program,
         monitor: &frame.monitor,

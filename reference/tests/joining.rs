@@ -2,7 +2,7 @@
 
 mod translations;
 
-use reference::network::{Network, Version};
+use reference::implementation::network::{Network, Version};
 use translations::{by_the_document, calls, frames_of, met, plain};
 
 /// Its network of version 3, as the request has it.

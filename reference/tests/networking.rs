@@ -2,16 +2,16 @@
 
 mod scripts;
 
-use reference::card_cases;
-use reference::engine::network_event;
-use reference::expr::Lent;
-use reference::network::{Creating, Network, LONGEST_NETWORK};
-use reference::network_cases::{self, Page};
-use reference::network_frames::Checkers;
-use reference::run::Record;
-use reference::script::{visit, Row, Sort};
-use reference::script_frames::{read_frames, Field, Frame};
-use reference::state::{Cause, Checker, Common, NetworkState};
+use reference::framing::network_frames::Checkers;
+use reference::framing::script_frames::{read_frames, Field, Frame};
+use reference::implementation::engine::network_event;
+use reference::implementation::expr::Lent;
+use reference::implementation::network::{Creating, Network, LONGEST_NETWORK};
+use reference::implementation::run::Record;
+use reference::implementation::state::{Cause, Checker, Common, NetworkState};
+use reference::making::scripts::card_cases;
+use reference::making::scripts::network_cases::{self, Page};
+use reference::making::scripts::script::{visit, Row, Sort};
 use scripts::{answer, count, is_offer, is_run};
 use std::collections::{HashMap, HashSet};
 use std::sync::OnceLock;

@@ -2,12 +2,12 @@
 
 mod scripts;
 
-use reference::monitor_cases::{self, Page};
-use reference::monitor_frames::Arms;
-use reference::run::Record;
-use reference::script::{Row, Sort};
-use reference::script_frames::{read_frames, Field, Frame};
-use reference::sheet::{Sheet, LONGEST_SHEET};
+use reference::framing::monitor_frames::Arms;
+use reference::framing::script_frames::{read_frames, Field, Frame};
+use reference::implementation::run::Record;
+use reference::implementation::sheet::{Sheet, LONGEST_SHEET};
+use reference::making::scripts::monitor_cases::{self, Page};
+use reference::making::scripts::script::{Row, Sort};
 use scripts::{count, is_offer, is_run};
 use std::sync::OnceLock;
 

@@ -1,15 +1,15 @@
 //! The worked examples of source documents 000 and 003: the coffee machine (000, examples 1, 5, 8
 //! and 9, section 7.2) and the file transfers (003, figure 2; 000, example 2).
 
-use reference::draft::SheetDraft;
-use reference::engine::Engine;
-use reference::expr::{Action, Assignment, Condition, Value};
-use reference::machine::Kind;
-use reference::network::Pair;
-use reference::run::{run_network, run_sheet, write_log, Record};
-use reference::sheet::Sheet;
-use reference::state::{Cause, Checker};
-use reference::translate::{translate, BUFFER};
+use reference::implementation::engine::Engine;
+use reference::implementation::expr::{Action, Assignment, Condition, Value};
+use reference::implementation::machine::Kind;
+use reference::implementation::network::Pair;
+use reference::implementation::run::{run_network, run_sheet, write_log, Record};
+use reference::implementation::sheet::Sheet;
+use reference::implementation::state::{Cause, Checker};
+use reference::implementation::translate::{translate, BUFFER};
+use reference::making::draft::SheetDraft;
 
 fn program(n: u8) -> Box<Value> {
     Box::new(Value::Program(n))

@@ -1,18 +1,18 @@
 //! Many random and damaged inputs: nothing panics, the answers hang together, and a run on a sheet
 //! is the same as the run on its network.
 
-use reference::engine::{fresh_network_state, fresh_sheet_state, Engine, Event};
-use reference::expr::{self, Lent};
-use reference::generate::{self, Size};
-use reference::network::Network;
-use reference::program::output;
-use reference::random::Random;
-use reference::random_expr::damage;
-use reference::run::{run_network, run_sheet, Record};
-use reference::sheet::{Sheet, LONGEST_SHEET};
-use reference::state::{NetworkState, SheetState};
-use reference::tally::{reach, tally, wanted, SEED};
-use reference::translate::{translate, translate_card, BUFFER};
+use reference::counting::tally::{tally, wanted, SEED};
+use reference::implementation::engine::{fresh_network_state, fresh_sheet_state, Engine, Event};
+use reference::implementation::expr::{self, Lent};
+use reference::implementation::network::Network;
+use reference::implementation::program::output;
+use reference::implementation::run::{reach, run_network, run_sheet, Record};
+use reference::implementation::sheet::{Sheet, LONGEST_SHEET};
+use reference::implementation::state::{NetworkState, SheetState};
+use reference::implementation::translate::{translate, translate_card, BUFFER};
+use reference::making::generate::{self, Size};
+use reference::making::random::Random;
+use reference::making::random_expr::damage;
 
 /// Offers bytes to everything that takes bytes.
 fn offer(bytes: &[u8], random: &mut Random) {
@@ -47,9 +47,9 @@ fn offer_events(bytes: &[u8], random: &mut Random) {
         values: &values,
     };
     let (state, _) = fresh_sheet_state(bytes);
-    let _ = reference::engine::sheet_event(bytes, &state, &event);
+    let _ = reference::implementation::engine::sheet_event(bytes, &state, &event);
     let (state, _) = fresh_network_state(bytes);
-    let _ = reference::engine::network_event(bytes, &state, &event);
+    let _ = reference::implementation::engine::network_event(bytes, &state, &event);
 }
 
 fn random_small(bytes: &[u8]) -> usize {
@@ -89,7 +89,7 @@ fn damaged_sheets_and_logs_do_not_panic() {
         let manner = generate::Manner::any(&mut random);
         let count = random.between(0, 10);
         let records = generate::records(&mut random, shape, manner, count);
-        let log = reference::run::write_log(shape.program, &records);
+        let log = reference::implementation::run::write_log(shape.program, &records);
         let mut input = [draft.bytes(), log].concat();
         for _ in 0..random.between(1, 4) {
             damage(&mut random, &mut input);

@@ -1,11 +1,11 @@
 //! Reading sheets, networks and logs, through the cases of `sheet_cases`.
 
-use reference::network::{Network, LONGEST_NETWORK};
-use reference::pages::PAGE;
-use reference::programs;
-use reference::sheet::{Sheet, LONGEST_SHEET};
-use reference::sheet_cases::{self, Row};
-use reference::sheet_frames::{read_frames, Frame, Kind};
+use reference::framing::pages::PAGE;
+use reference::framing::sheet_frames::{read_frames, Frame, Kind};
+use reference::implementation::network::{Network, LONGEST_NETWORK};
+use reference::implementation::sheet::{Sheet, LONGEST_SHEET};
+use reference::making::cases::sheet_cases::{self, Row};
+use reference::making::programs;
 
 #[test]
 fn chosen_cases_have_the_answers_written_beside_them() {

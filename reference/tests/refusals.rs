@@ -1,13 +1,13 @@
 //! Every refusal by hand: its edges, and which of two comes first.
 
-use reference::draft::{NetworkDraft, SheetDraft};
-use reference::engine::{network_event, sheet_event, Engine, Event};
-use reference::network::Network;
-use reference::run::Outcome;
-use reference::sheet::{Sheet, LONGEST_SHEET};
-use reference::state::{Cause, Checker, NetworkState, SheetState, Verdict};
-use reference::translate::{translate, BUFFER};
-use reference::Refusal;
+use reference::implementation::engine::{network_event, sheet_event, Engine, Event};
+use reference::implementation::network::Network;
+use reference::implementation::refusal::Refusal;
+use reference::implementation::run::Outcome;
+use reference::implementation::sheet::{Sheet, LONGEST_SHEET};
+use reference::implementation::state::{Cause, Checker, NetworkState, SheetState, Verdict};
+use reference::implementation::translate::{translate, BUFFER};
+use reference::making::draft::{NetworkDraft, SheetDraft};
 
 /// States 0-2 (2 is bad), units 0-1, P 2, V 1. Conditions: 0 true, 1 on the monitor variable,
 /// 2 on values at entry, 3 on program values. Actions: 0 empty, 1 counts.
@@ -59,7 +59,7 @@ fn read_sheet(bytes: &[u8]) -> Result<(), u8> {
     if let Some(refusal) = refusal {
         assert!(buffer.iter().all(|b| *b == 7));
         assert_eq!(
-            reference::run::run_sheet(bytes, &[]),
+            reference::implementation::run::run_sheet(bytes, &[]),
             Outcome::Refused(refusal)
         );
         let event = event(0, 0, 1);
@@ -431,8 +431,9 @@ fn refusal_8() {
 
 #[test]
 fn the_longest_sheet_and_its_network() {
-    let mut random = reference::random::Random::new(1);
-    let draft = reference::generate::sheet(&mut random, reference::generate::Size::Full);
+    let mut random = reference::making::random::Random::new(1);
+    let draft =
+        reference::making::generate::sheet(&mut random, reference::making::generate::Size::Full);
     let bytes = draft.bytes();
     assert_eq!(bytes.len(), LONGEST_SHEET);
     assert_eq!(read_sheet(&bytes), Ok(()));
@@ -618,7 +619,7 @@ fn refusal_9_where_checkers_are_not_in_their_calls_order() {
 fn refusals_10_to_15_in_order() {
     let sheet = read();
     let network = sheet.translate();
-    let answer = |change: &dyn Fn(&mut reference::state::Common), event: &Event| {
+    let answer = |change: &dyn Fn(&mut reference::implementation::state::Common), event: &Event| {
         let mut on_sheet = one_open();
         change(&mut on_sheet.common);
         let (_, mut on_network) = network_one_open();
@@ -638,7 +639,7 @@ fn refusals_10_to_15_in_order() {
         values: &[4, 4, 4],
         ..event(0, 0, 9)
     };
-    let as_is = |_: &mut reference::state::Common| {};
+    let as_is = |_: &mut reference::implementation::state::Common| {};
     assert_eq!(answer(&as_is, &event(2, 0, 9)), Some(11));
     assert_eq!(answer(&as_is, &event(255, 0, 7)), Some(11));
     assert_eq!(answer(&as_is, &event(0, 2, 9)), Some(11));
@@ -649,7 +650,7 @@ fn refusals_10_to_15_in_order() {
     assert_eq!(answer(&as_is, &event(1, 0, 9)), Some(15));
     assert_eq!(answer(&as_is, &event(1, 1, 7)), Some(15));
     assert_eq!(answer(&as_is, &event(1, 0, 7)), None);
-    let verdict = |c: &mut reference::state::Common| {
+    let verdict = |c: &mut reference::implementation::state::Common| {
         c.verdict = Some(Verdict {
             position: 1,
             cause: Cause::Triple(0),
@@ -657,11 +658,11 @@ fn refusals_10_to_15_in_order() {
     };
     // 10 before 11, 11 before 12, 12 before 13 and 15.
     assert_eq!(answer(&verdict, &event(2, 0, 9)), Some(10));
-    let last = |c: &mut reference::state::Common| c.position = u32::MAX;
+    let last = |c: &mut reference::implementation::state::Common| c.position = u32::MAX;
     assert_eq!(answer(&last, &event(2, 0, 9)), Some(11));
     assert_eq!(answer(&last, &event(0, 0, 7)), Some(12));
     assert_eq!(answer(&last, &event(1, 0, 9)), Some(12));
-    let last_but_one = |c: &mut reference::state::Common| c.position = u32::MAX - 1;
+    let last_but_one = |c: &mut reference::implementation::state::Common| c.position = u32::MAX - 1;
     assert_eq!(answer(&last_but_one, &event(0, 0, 9)), None);
 }
 

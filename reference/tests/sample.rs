@@ -1,12 +1,12 @@
 //! Document 01's sample A: every line of its list, starred or not.
 
-use reference::engine::{fresh_network_state, fresh_sheet_state, Engine};
-use reference::network::Network;
-use reference::program::output;
-use reference::run::{run_network, run_sheet, write_log, Outcome, Record};
-use reference::sheet::Sheet;
-use reference::translate::translate;
-use reference::Refusal;
+use reference::implementation::engine::{fresh_network_state, fresh_sheet_state, Engine};
+use reference::implementation::network::Network;
+use reference::implementation::program::output;
+use reference::implementation::refusal::Refusal;
+use reference::implementation::run::{run_network, run_sheet, write_log, Outcome, Record};
+use reference::implementation::sheet::Sheet;
+use reference::implementation::translate::translate;
 
 const SHEET_A: [u8; 39] = [
     0x00, 0x27, 0x01, 0x02, 0x01, 0x02, 0x00, 0x00, 0x00, 0x00, 0x02, 0x01, 0x02,

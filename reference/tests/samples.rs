@@ -2,7 +2,7 @@
 
 mod places;
 
-use reference::dump::bytes;
+use reference::framing::dump::bytes;
 use std::fs;
 use std::path::{Path, PathBuf};
 use std::process::{Command, Output};

@@ -3,7 +3,7 @@
 mod places;
 
 use places::directory;
-use reference::programs::PROGRAMS;
+use reference::making::programs::PROGRAMS;
 use std::fs;
 use std::io::Write;
 use std::path::{Path, PathBuf};

@@ -2,14 +2,14 @@
 
 mod translations;
 
-use reference::expr::Condition;
-use reference::machine::{Kind, Transition};
-use reference::network::Version;
-use reference::pages::PAGE;
-use reference::programs;
-use reference::sheet::{Sheet, LONGEST_SHEET};
-use reference::translation_cases;
-use reference::translation_frames::{read_frames, Frame, Room};
+use reference::framing::pages::PAGE;
+use reference::framing::translation_frames::{read_frames, Frame, Room};
+use reference::implementation::expr::Condition;
+use reference::implementation::machine::{Kind, Transition};
+use reference::implementation::network::Version;
+use reference::implementation::sheet::{Sheet, LONGEST_SHEET};
+use reference::making::cases::translation_cases;
+use reference::making::programs;
 use std::collections::{BTreeSet, HashSet};
 use translations::{by_the_document, met, plain};
 

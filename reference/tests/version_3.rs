@@ -4,15 +4,16 @@
 mod committed;
 
 use committed::{add, assert_shown, committed, lines, Counts};
-use reference::engine::Engine;
-use reference::expr::Condition;
-use reference::frames;
-use reference::network::{Network, Version};
-use reference::network_frames::Checkers;
-use reference::pages::PAGE;
-use reference::run::{read_log, run, Record};
-use reference::script_frames::{read_page, Bench, Frame};
-use reference::{sheet_frames, translation_frames};
+use reference::framing::condition_frames;
+use reference::framing::network_frames::Checkers;
+use reference::framing::pages::PAGE;
+use reference::framing::script_frames::{read_page, Bench, Frame};
+use reference::framing::sheet_frames;
+use reference::framing::translation_frames;
+use reference::implementation::engine::Engine;
+use reference::implementation::expr::Condition;
+use reference::implementation::network::{Network, Version};
+use reference::implementation::run::{read_log, run, Record};
 
 // ---- condition_cases --------------------------------------------------------------------------
 
@@ -71,11 +72,11 @@ fn of_conditions() {
     let mut counts = Counts::new();
     for (frame, line) in &committed::conditions() {
         let (name, judged) = match frame.kind {
-            frames::Kind::Condition => ("condition", ""),
-            frames::Kind::Value => ("value", ""),
-            frames::Kind::Action => ("action", ""),
-            frames::Kind::JudgeCondition => ("condition", " judged"),
-            frames::Kind::JudgeAction => ("action", " judged"),
+            condition_frames::Kind::Condition => ("condition", ""),
+            condition_frames::Kind::Value => ("value", ""),
+            condition_frames::Kind::Action => ("action", ""),
+            condition_frames::Kind::JudgeCondition => ("condition", " judged"),
+            condition_frames::Kind::JudgeAction => ("action", " judged"),
         };
         let answer = match line.parse::<i32>() {
             Ok(_) if judged.is_empty() => "a number",

@@ -4,13 +4,13 @@
 //! `bench [--write DIRECTORY]`; with `--write` it writes the inputs and times nothing, for counting
 //! instructions: `valgrind --tool=callgrind example SHEET LOG`.
 
-use reference::engine::Engine;
-use reference::network::{Network, Version};
-use reference::proved::{self, numbered, Answer};
-use reference::run::{run, run_unjudged};
-use reference::sheet::Sheet;
-use reference::translate::{translate_to, CARD_BUFFER};
-use reference::workloads::{self, Workload, MONDEX_REPORTED};
+use reference::framing::proved::{self, numbered, Answer};
+use reference::implementation::engine::Engine;
+use reference::implementation::network::{Network, Version};
+use reference::implementation::run::{run, run_unjudged};
+use reference::implementation::sheet::Sheet;
+use reference::implementation::translate::{translate_to, CARD_BUFFER};
+use reference::making::workloads::{self, Workload, MONDEX_REPORTED};
 use std::ffi::OsString;
 use std::fs;
 use std::hint::black_box;
@@ -178,7 +178,12 @@ fn reading() {
     for workload in workloads::sheet_sizes().iter().chain([&mondex]) {
         let log = [0, 0, 0, 6, 1, workload.log[5]];
         let sheet = &workload.sheet;
-        let reference = || numbered(reference::run::run_sheet(black_box(sheet), &log));
+        let reference = || {
+            numbered(reference::implementation::run::run_sheet(
+                black_box(sheet),
+                &log,
+            ))
+        };
         let proved = || proved::run(black_box(sheet), &log);
         let times = Times::of([&proved, &reference, &reference]);
         let [own, other, _] = times.0.map(|seconds| thousands((seconds * 1e9) as u64));

@@ -2,8 +2,8 @@
 //!
 //! `cases [--check] [ROOT]`; ROOT is the repository's root, by default the parent of `reference/`.
 
-use reference::programs::{Files, PROGRAMS};
-use std::fs;
+use reference::framing::case_files;
+use reference::making::programs::made;
 use std::path::{Path, PathBuf};
 use std::process::ExitCode;
 
@@ -52,41 +52,9 @@ fn default_root() -> PathBuf {
 }
 
 fn work(arguments: &Arguments) -> Result<(), String> {
-    for program in PROGRAMS {
-        let directory = arguments.root.join("crates").join(program.name);
-        let Files { stdin, stdout } = (program.make)();
-        for (name, bytes) in [("stdin", stdin), ("stdout", stdout)] {
-            let path = directory.join(name);
-            if arguments.check {
-                check(&path, &bytes)?;
-            } else {
-                write(&path, &bytes)?;
-            }
-        }
+    if arguments.check {
+        case_files::check(&arguments.root, made())
+    } else {
+        case_files::write(&arguments.root, made())
     }
-    Ok(())
-}
-
-fn check(path: &Path, bytes: &[u8]) -> Result<(), String> {
-    let committed = fs::read(path).map_err(|error| format!("{}: {error}", path.display()))?;
-    if committed == bytes {
-        return Ok(());
-    }
-    let same = committed
-        .iter()
-        .zip(bytes)
-        .take_while(|(a, b)| a == b)
-        .count();
-    Err(format!(
-        "{} differs from what the reference makes, first at byte {same}",
-        path.display()
-    ))
-}
-
-fn write(path: &Path, bytes: &[u8]) -> Result<(), String> {
-    let say = |error: std::io::Error| format!("{}: {error}", path.display());
-    if let Some(directory) = path.parent() {
-        fs::create_dir_all(directory).map_err(say)?;
-    }
-    fs::write(path, bytes).map_err(say)
 }

@@ -3,10 +3,10 @@
 //! `generate [COUNT] [--write DIRECTORY]`; with `--write` the inputs of the program and its
 //! expected outputs are also written, as NUMBER.in and NUMBER.out.
 
-use reference::generate::run_case;
-use reference::program::output;
-use reference::random::Random;
-use reference::tally::{tally, SEED, USUAL};
+use reference::counting::tally::{tally, SEED, USUAL};
+use reference::implementation::program::output;
+use reference::making::generate::run_case;
+use reference::making::random::Random;
 use std::ffi::OsString;
 use std::fs;
 use std::io::Write;

@@ -2,7 +2,7 @@
 //!
 //! `samples [--check] [DIRECTORY]`; DIRECTORY is by default `samples/` beside `reference/`.
 
-use reference::samples::{check, write};
+use reference::framing::samples::{check, write};
 use std::path::{Path, PathBuf};
 use std::process::ExitCode;
 

@@ -1,6 +1,6 @@
 //! Reads a sheet and a log from standard input and prints the program's two lines.
 
-use reference::program::{output, MOST_INPUT};
+use reference::implementation::program::{output, MOST_INPUT};
 use std::io::{Read, Write};
 use std::process::ExitCode;
 

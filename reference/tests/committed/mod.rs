@@ -1,6 +1,6 @@
 //! The committed files of the case programs, and what is counted in them.
 
-use reference::frames::{read_frames, Frame};
+use reference::framing::condition_frames::{read_frames, Frame};
 use std::collections::BTreeMap;
 use std::fs;
 

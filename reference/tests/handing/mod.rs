@@ -1,12 +1,12 @@
 //! Inputs for the program, ways to hand them over on standard input, and what a program does with
 //! them beside what the reference says.
 
-use reference::expr::Action;
-use reference::program::{output, MOST_INPUT};
-use reference::program_cases::record;
-use reference::run::{write_log, Record};
-use reference::sheet::Sheet;
-use reference::sheet_cases::{LOG_A, SHEET_A};
+use reference::implementation::expr::Action;
+use reference::implementation::program::{output, MOST_INPUT};
+use reference::implementation::run::{write_log, Record};
+use reference::implementation::sheet::Sheet;
+use reference::making::cases::program_cases::record;
+use reference::making::cases::sheet_cases::{LOG_A, SHEET_A};
 use std::fs::{self, File};
 use std::io::{self, ErrorKind, Write};
 use std::path::PathBuf;

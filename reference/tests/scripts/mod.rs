@@ -1,11 +1,11 @@
 //! What the tests of `monitor_cases` and `network_cases` share.
 
-use reference::pages::{FILLER, PAGE};
-use reference::programs;
-use reference::run::Record;
-use reference::script::{visit, Page, Row, Sort};
-use reference::script_frames::{read_frames, read_page, Bench, Field, Frame, Own, Rules};
-use reference::state::Call;
+use reference::framing::pages::{FILLER, PAGE};
+use reference::framing::script_frames::{read_frames, read_page, Bench, Field, Frame, Own, Rules};
+use reference::implementation::run::Record;
+use reference::implementation::state::Call;
+use reference::making::programs;
+use reference::making::scripts::script::{visit, Page, Row, Sort};
 use std::collections::HashSet;
 
 pub fn assert_written_answers<O: Own>(pages: &[Page<O>]) {

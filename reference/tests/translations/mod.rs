@@ -1,11 +1,11 @@
 //! What the tests of both versions share: the cases of `translation_cases` taken apart, and a sheet's
 //! network put together from its bytes.
 
-use reference::network::{Network, Version};
-use reference::sheet::Sheet;
-use reference::translate::{BUFFER, CARD_BUFFER};
-use reference::translation_cases;
-use reference::translation_frames::{Frame, Room};
+use reference::framing::translation_frames::{Frame, Room};
+use reference::implementation::network::{Network, Version};
+use reference::implementation::sheet::Sheet;
+use reference::implementation::translate::{BUFFER, CARD_BUFFER};
+use reference::making::cases::translation_cases;
 use std::collections::BTreeMap;
 
 /// What a sheet's bytes are to be translated to, or the number of the refusal.

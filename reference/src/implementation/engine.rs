@@ -1,0 +1,403 @@
+//! One event, on a sheet and on a network.
+
+use crate::implementation::expr::Lent;
+use crate::implementation::machine::{Header, Kind, Machine, Transition};
+use crate::implementation::network::Network;
+use crate::implementation::refusal::Refusal;
+use crate::implementation::sheet::Sheet;
+use crate::implementation::state::{
+    Armed, Call, Cause, Checker, Common, NetworkState, SheetState, Verdict, MOST_CALLS,
+    MOST_CHECKERS,
+};
+
+/// An event as offered: nothing in it has been judged yet.
+#[derive(Clone, Copy, Debug, PartialEq, Eq)]
+pub struct Event<'a> {
+    pub kind: u8,
+    pub unit: u8,
+    pub call: u16,
+    pub values: &'a [i32],
+}
+
+/// What a run needs from a sheet or a network.
+pub trait Engine: Sized {
+    type State: Clone + Default;
+
+    /// The first of the reading refusals that applies, or what the bytes say.
+    fn read(bytes: &[u8]) -> Result<Self, Refusal>;
+    fn machine(&self) -> &Machine;
+    fn fresh(&self) -> Self::State;
+    fn is_sound(&self, state: &Self::State) -> bool;
+    /// The state after the event, or the lowest of refusals 10-15, for a state that is sound.
+    fn take(&self, state: &Self::State, event: &Event) -> Result<Self::State, Refusal>;
+    fn common(state: &Self::State) -> &Common;
+
+    /// The state after the event, or the lowest of refusals 9-15; then the state stays as it was.
+    fn event(&self, state: &Self::State, event: &Event) -> Result<Self::State, Refusal> {
+        if !self.is_sound(state) {
+            return Err(Refusal::Unsound);
+        }
+        self.take(state, event)
+    }
+}
+
+/// An event that is taken: an entry, or the exit of the call at a place.
+#[derive(Clone, Copy)]
+enum Taken {
+    Entry,
+    Exit(usize),
+}
+
+impl Taken {
+    fn kind(self) -> Kind {
+        match self {
+            Taken::Entry => Kind::Entry,
+            Taken::Exit(_) => Kind::Exit,
+        }
+    }
+}
+
+/// Refusals 10 to 15.
+fn admit(common: &Common, event: &Event, header: &Header) -> Result<Taken, Refusal> {
+    if common.verdict.is_some() {
+        return Err(Refusal::HasVerdict);
+    }
+    let kind = Kind::from_byte(event.kind).ok_or(Refusal::Arguments)?;
+    if event.unit >= header.units || event.values.len() != usize::from(header.program) {
+        return Err(Refusal::Arguments);
+    }
+    if common.position == u32::MAX {
+        return Err(Refusal::LastPosition);
+    }
+    let place = common.place_of(event.call);
+    match kind {
+        Kind::Entry => admit_entry(common, place),
+        Kind::Exit => admit_exit(common, event.unit, place),
+    }
+}
+
+fn admit_entry(common: &Common, place: Option<usize>) -> Result<Taken, Refusal> {
+    if place.is_some() {
+        return Err(Refusal::AlreadyOpen);
+    }
+    if usize::from(common.open) >= MOST_CALLS {
+        return Err(Refusal::NoPlace);
+    }
+    Ok(Taken::Entry)
+}
+
+fn admit_exit(common: &Common, unit: u8, place: Option<usize>) -> Result<Taken, Refusal> {
+    let place = place.ok_or(Refusal::NotOpen)?;
+    match common.open_calls().get(place) {
+        Some(call) if call.unit == unit => Ok(Taken::Exit(place)),
+        _ => Err(Refusal::NotOpen),
+    }
+}
+
+impl Common {
+    /// Appends the call and gives its place.
+    fn enter(&mut self, event: &Event) -> usize {
+        let mut call = Call {
+            number: event.call,
+            unit: event.unit,
+            ..Call::default()
+        };
+        for (kept, value) in call.kept.iter_mut().zip(event.values) {
+            *kept = *value;
+        }
+        let place = usize::from(self.open);
+        if let Some(free) = self.calls.get_mut(place) {
+            *free = call;
+            self.open += 1;
+        }
+        place
+    }
+
+    /// Takes the call out; the later ones move up.
+    fn leave(&mut self, place: usize) -> Call {
+        self.open = self.open.saturating_sub(1);
+        close_up(&mut self.calls, place)
+    }
+
+    /// The action and then the new state; without a transition both stay.
+    fn finish(&mut self, taken: Option<&Transition>, event: &Event, machine: &Machine) {
+        let Some(transition) = taken else { return };
+        if let Some(action) = machine.actions.get(usize::from(transition.action)) {
+            let monitor = usize::from(machine.header.monitor).min(self.variables.len());
+            action.carry_out(event.values, &mut self.variables[..monitor], &[]);
+        }
+        self.main = transition.to;
+    }
+
+    /// A verdict where the new state is bad or a postcondition fails.
+    fn judge(&mut self, header: &Header, failing: Option<u8>) {
+        let bad = header.is_bad(self.main).then_some(self.main);
+        let position = self.position;
+        self.verdict = Cause::new(bad, failing).map(|cause| Verdict { position, cause });
+    }
+}
+
+/// Removes the element at `place`, moves the rest up and zeroes the last.
+fn close_up<T: Copy + Default>(places: &mut [T], place: usize) -> T {
+    let Some(tail) = places.get_mut(place..) else {
+        return T::default();
+    };
+    let Some(out) = tail.first().copied() else {
+        return T::default();
+    };
+    tail.rotate_left(1);
+    if let Some(last) = tail.last_mut() {
+        *last = T::default();
+    }
+    out
+}
+
+/// Whether a transition is the one for this event: state, kind, unit, then its condition.
+fn is_enabled(t: &Transition, common: &Common, kind: Kind, event: &Event, m: &Machine) -> bool {
+    let lent = Lent {
+        program: event.values,
+        monitor: &common.variables,
+        kept: &[],
+    };
+    t.from == common.main
+        && t.kind == kind
+        && t.unit == event.unit
+        && m.condition_holds(t.condition, &lent)
+}
+
+fn precondition_holds(condition: u8, event: &Event, machine: &Machine) -> bool {
+    let lent = Lent {
+        program: event.values,
+        monitor: &[],
+        kept: &[],
+    };
+    machine.condition_holds(condition, &lent)
+}
+
+fn postcondition_holds(condition: u8, event: &Event, call: &Call, machine: &Machine) -> bool {
+    let lent = Lent {
+        program: event.values,
+        monitor: &[],
+        kept: &call.kept,
+    };
+    machine.condition_holds(condition, &lent)
+}
+
+// ---- Sheets -----------------------------------------------------------------------------------
+
+impl Engine for Sheet {
+    type State = SheetState;
+
+    fn read(bytes: &[u8]) -> Result<Sheet, Refusal> {
+        Sheet::read(bytes)
+    }
+
+    fn machine(&self) -> &Machine {
+        &self.machine
+    }
+
+    fn fresh(&self) -> SheetState {
+        SheetState {
+            common: Common::fresh(&self.machine),
+            ..SheetState::default()
+        }
+    }
+
+    fn is_sound(&self, state: &SheetState) -> bool {
+        state.is_sound(self)
+    }
+
+    fn take(&self, state: &SheetState, event: &Event) -> Result<SheetState, Refusal> {
+        let header = &self.machine.header;
+        let taken = admit(&state.common, event, header)?;
+        let mut next = state.clone();
+        next.common.position += 1;
+        let failing = match taken {
+            Taken::Entry => {
+                self.arm(&mut next, event);
+                None
+            }
+            Taken::Exit(place) => self.disarm(&mut next, place, event),
+        };
+        let fits =
+            |t: &&Transition| is_enabled(t, &state.common, taken.kind(), event, &self.machine);
+        let transition = self.transitions.iter().find(fits);
+        next.common.finish(transition, event, &self.machine);
+        next.common.judge(header, failing);
+        Ok(next)
+    }
+
+    fn common(state: &SheetState) -> &Common {
+        &state.common
+    }
+}
+
+impl Sheet {
+    /// Opens the call, with the triples of the present state whose preconditions hold.
+    fn arm(&self, next: &mut SheetState, event: &Event) {
+        let mut armed = Armed::default();
+        for number in self.triples_of(next.common.main, event.unit) {
+            let precondition = self.triples[usize::from(number)].precondition;
+            let holds = precondition_holds(precondition, event, &self.machine);
+            let free = armed.triples.get_mut(usize::from(armed.count));
+            if let (true, Some(free)) = (holds, free) {
+                *free = number;
+                armed.count += 1;
+            }
+        }
+        let place = next.common.enter(event);
+        if let Some(free) = next.armed.get_mut(place) {
+            *free = armed;
+        }
+    }
+
+    /// Closes the call and gives the lowest armed triple whose postcondition fails.
+    fn disarm(&self, next: &mut SheetState, place: usize, event: &Event) -> Option<u8> {
+        let call = next.common.leave(place);
+        let armed = close_up(&mut next.armed, place);
+        let fails = |number: &&u8| {
+            let triple = self.triples.get(usize::from(**number));
+            let holds = |post| postcondition_holds(post, event, &call, &self.machine);
+            triple.is_some_and(|t| !holds(t.postcondition))
+        };
+        armed.numbers().iter().filter(fails).min().copied()
+    }
+}
+
+// ---- Networks ---------------------------------------------------------------------------------
+
+impl Engine for Network {
+    type State = NetworkState;
+
+    fn read(bytes: &[u8]) -> Result<Network, Refusal> {
+        Network::read(bytes)
+    }
+
+    fn machine(&self) -> &Machine {
+        &self.machine
+    }
+
+    fn fresh(&self) -> NetworkState {
+        NetworkState {
+            common: Common::fresh(&self.machine),
+            ..NetworkState::default()
+        }
+    }
+
+    fn is_sound(&self, state: &NetworkState) -> bool {
+        state.is_sound(self)
+    }
+
+    fn take(&self, state: &NetworkState, event: &Event) -> Result<NetworkState, Refusal> {
+        let header = &self.machine.header;
+        let taken = admit(&state.common, event, header)?;
+        let mut next = state.clone();
+        next.common.position += 1;
+        let failing = match taken {
+            Taken::Entry => {
+                next.common.enter(event);
+                None
+            }
+            Taken::Exit(place) => self.end_checkers(&mut next, place, event),
+        };
+        let creating = self.transitions.iter().find(|c| {
+            is_enabled(
+                &c.transition,
+                &state.common,
+                taken.kind(),
+                event,
+                &self.machine,
+            )
+        });
+        for pair in creating.iter().flat_map(|c| &c.pairs) {
+            if precondition_holds(pair.condition, event, &self.machine) {
+                next.create(event.call, pair.template);
+            }
+        }
+        let transition = creating.map(|c| &c.transition);
+        next.common.finish(transition, event, &self.machine);
+        next.common.judge(header, failing);
+        Ok(next)
+    }
+
+    fn common(state: &NetworkState) -> &Common {
+        &state.common
+    }
+}
+
+impl Network {
+    /// Closes the call, ends its checkers and gives the lowest template that fails.
+    fn end_checkers(&self, next: &mut NetworkState, place: usize, event: &Event) -> Option<u8> {
+        let call = next.common.leave(place);
+        let (ending, staying): (Vec<Checker>, Vec<Checker>) = next
+            .living_checkers()
+            .iter()
+            .partition(|c| c.call == event.call);
+        next.set_checkers(&staying);
+        let fails = |checker: &&Checker| {
+            let template = self.templates.get(usize::from(checker.template));
+            let holds = |post| postcondition_holds(post, event, &call, &self.machine);
+            template.is_some_and(|t| !holds(t.postcondition))
+        };
+        ending.iter().filter(fails).map(|c| c.template).min()
+    }
+}
+
+impl NetworkState {
+    /// The call is the last one opened, so the checkers stay in their calls' order.
+    fn create(&mut self, call: u16, template: u8) {
+        if let Some(free) = self.checkers.get_mut(usize::from(self.living)) {
+            *free = Checker { call, template };
+            self.living += 1;
+        }
+    }
+
+    fn set_checkers(&mut self, checkers: &[Checker]) {
+        self.checkers = [Checker::default(); MOST_CHECKERS];
+        self.living = 0;
+        for checker in checkers {
+            self.create(checker.call, checker.template);
+        }
+    }
+}
+
+// ---- From bytes -------------------------------------------------------------------------------
+
+/// A fresh state; what is refused gives an all-zero state.
+pub fn fresh_state<E: Engine>(bytes: &[u8]) -> (E::State, Option<Refusal>) {
+    match E::read(bytes) {
+        Ok(engine) => (engine.fresh(), None),
+        Err(refusal) => (E::State::default(), Some(refusal)),
+    }
+}
+
+/// One event: the reading refusals and 9-15.
+pub fn offer<E: Engine>(
+    bytes: &[u8],
+    state: &E::State,
+    event: &Event,
+) -> Result<E::State, Refusal> {
+    E::read(bytes)?.event(state, event)
+}
+
+pub fn fresh_sheet_state(sheet: &[u8]) -> (SheetState, Option<Refusal>) {
+    fresh_state::<Sheet>(sheet)
+}
+
+pub fn fresh_network_state(network: &[u8]) -> (NetworkState, Option<Refusal>) {
+    fresh_state::<Network>(network)
+}
+
+/// One event on a sheet's bytes: refusals 1-15.
+pub fn sheet_event(sheet: &[u8], state: &SheetState, event: &Event) -> Result<SheetState, Refusal> {
+    offer::<Sheet>(sheet, state, event)
+}
+
+/// One event on a network's bytes: refusals 1-7 and 9-15.
+pub fn network_event(
+    network: &[u8],
+    state: &NetworkState,
+    event: &Event,
+) -> Result<NetworkState, Refusal> {
+    offer::<Network>(network, state, event)
+}

@@ -1,0 +1,8 @@
+//! The cases of the programs whose frames stand each on its own.
+
+pub mod condition_cases;
+pub(crate) mod condition_ends;
+pub mod program_cases;
+pub mod rival_sheets;
+pub mod sheet_cases;
+pub mod translation_cases;

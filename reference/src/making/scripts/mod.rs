@@ -1,0 +1,13 @@
+//! The cases of `monitor_cases` and `network_cases`, whose frames are scripts: shared ones, and their own.
+
+pub mod card_cases;
+pub mod monitor_cases;
+pub mod monitor_clauses;
+pub mod network_cases;
+pub mod network_clauses;
+pub mod random_script;
+pub mod script;
+pub mod script_ends;
+pub mod shared_cases;
+pub mod shared_clauses;
+pub mod wide_cases;
