@@ -3,6 +3,7 @@
 mod places;
 
 use places::directory;
+use reference::framing::case_files::{self, Files};
 use reference::making::programs::PROGRAMS;
 use std::fs;
 use std::io::Write;
@@ -12,6 +13,17 @@ use std::process::{Command, Output, Stdio};
 const CASES: &str = env!("CARGO_BIN_EXE_cases");
 const GENERATE: &str = env!("CARGO_BIN_EXE_generate");
 const WATCH: &str = env!("CARGO_BIN_EXE_watch-reference");
+
+/// The case programs, and the files that each has below `crates/`.
+const NAMES: [&str; 6] = [
+    "condition_cases",
+    "sheet_cases",
+    "monitor_cases",
+    "network_cases",
+    "translation_cases",
+    "cases",
+];
+const FILES: [&str; 2] = ["stdin", "stdout"];
 
 fn run(program: &str, arguments: &[&str]) -> Output {
     run_with(program, arguments, &[])
@@ -54,48 +66,88 @@ fn cases_reproduces_the_committed_files() {
 
 #[test]
 fn cases_writes_what_it_checks() {
-    let root = directory("writes");
-    fs::create_dir(root.join("crates")).unwrap();
+    let root = root("writes");
     let text = root.to_str().unwrap();
     assert_one_line_and_failure(&run(CASES, &["--check", text]));
     assert!(run(CASES, &[text]).status.success());
     assert!(run(CASES, &[text, "--check"]).status.success());
-    for file in case_files() {
-        let path = root.join("crates").join(&file);
+    assert_eq!(case_files::check(&root, committed()), Ok(()));
+}
+
+/// One file of each program: every run makes the cases anew, up to the file that differs.
+#[test]
+fn cases_names_a_file_that_differs() {
+    let root = root("differs");
+    case_files::write(&root, committed()).unwrap();
+    let text = root.to_str().unwrap();
+    for (name, file) in NAMES.into_iter().zip(FILES.into_iter().cycle()) {
+        let path = root.join("crates").join(name).join(file);
         let good = fs::read(&path).unwrap();
-        let committed = Path::new(env!("CARGO_MANIFEST_DIR")).join("../crates");
-        assert_eq!(fs::read(committed.join(&file)).unwrap(), good, "{file:?}");
-        let mut bytes = good.clone();
-        bytes[100] ^= 1;
-        fs::write(&path, &bytes).unwrap();
+        let changed = change(&path);
         let output = run(CASES, &["--check", text]);
         assert_one_line_and_failure(&output);
         assert_eq!(output.status.code(), Some(1));
         let said = String::from_utf8_lossy(&output.stderr);
         assert!(said.contains("differs"));
-        assert!(said.contains(file.to_str().unwrap()));
+        assert!(said.contains(path.to_str().unwrap()));
         // Checking wrote nothing.
-        assert_eq!(fs::read(&path).unwrap(), bytes);
-        fs::remove_file(&path).unwrap();
-        assert_one_line_and_failure(&run(CASES, &["--check", text]));
+        assert_eq!(fs::read(&path).unwrap(), changed);
         fs::write(&path, &good).unwrap();
     }
-    assert!(run(CASES, &["--check", text]).status.success());
 }
 
-/// The files of every program, below `crates/`.
-fn case_files() -> Vec<PathBuf> {
-    let names = [
-        "condition_cases",
-        "sheet_cases",
-        "monitor_cases",
-        "network_cases",
-        "translation_cases",
-        "cases",
-    ];
-    assert!(PROGRAMS.iter().map(|program| program.name).eq(names));
-    let files = |name| ["stdin", "stdout"].map(|file| Path::new(name).join(file));
-    names.into_iter().flat_map(files).collect()
+/// Every file of every program, by the function that `cases` calls.
+#[test]
+fn each_file_that_differs_or_is_missing_is_named() {
+    let root = root("named");
+    let committed = committed();
+    case_files::write(&root, committed.clone()).unwrap();
+    for path in paths(&root) {
+        let good = fs::read(&path).unwrap();
+        let changed = change(&path);
+        let said = case_files::check(&root, committed.clone()).unwrap_err();
+        assert!(said.contains("differs"));
+        assert!(said.contains(path.to_str().unwrap()));
+        assert_eq!(fs::read(&path).unwrap(), changed);
+        fs::remove_file(&path).unwrap();
+        let said = case_files::check(&root, committed.clone()).unwrap_err();
+        assert!(said.contains(path.to_str().unwrap()));
+        assert!(!path.exists());
+        fs::write(&path, &good).unwrap();
+    }
+    assert_eq!(case_files::check(&root, committed), Ok(()));
+}
+
+/// A directory with a directory `crates`.
+fn root(name: &str) -> PathBuf {
+    let root = directory(name);
+    fs::create_dir(root.join("crates")).unwrap();
+    root
+}
+
+/// The file's bytes with one of them changed.
+fn change(path: &Path) -> Vec<u8> {
+    let mut bytes = fs::read(path).unwrap();
+    bytes[100] ^= 1;
+    fs::write(path, &bytes).unwrap();
+    bytes
+}
+
+/// The files of every program.
+fn paths(root: &Path) -> Vec<PathBuf> {
+    let files = |name| FILES.map(|file| root.join("crates").join(name).join(file));
+    NAMES.into_iter().flat_map(files).collect()
+}
+
+/// What the repository has in them.
+fn committed() -> Vec<(&'static str, Files)> {
+    assert!(PROGRAMS.iter().map(|program| program.name).eq(NAMES));
+    let crates = Path::new(env!("CARGO_MANIFEST_DIR")).join("../crates");
+    let files = |name| {
+        let [stdin, stdout] = FILES.map(|file| fs::read(crates.join(name).join(file)).unwrap());
+        (name, Files { stdin, stdout })
+    };
+    NAMES.into_iter().map(files).collect()
 }
 
 #[test]
