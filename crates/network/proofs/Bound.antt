@@ -57,7 +57,7 @@ module _ (n : ℕ) where
       go true h k = absurd (false≢true (sym h))
       go false h k = k h
 
-  turned : (l : List Armed) → any (λ (a : Armed). eqb n (a .call .number)) l ≡ false → any (ofNumber n) l ≡ false
+  pub turned : (l : List Armed) → any (λ (a : Armed). eqb n (a .call .number)) l ≡ false → any (ofNumber n) l ≡ false
   turned l k = go (any (ofNumber n) l) refl
     where
       go : (b : Bool) → any (ofNumber n) l ≡ b → b ≡ false

@@ -34,7 +34,7 @@ unfolding rowOf
 row-more [] a = append-nil (map (checker (a .call .number)) (a .armed))
 row-more (x ∷ l) a = ap (λ (m : List Checker). map (checker (x .call .number)) (x .armed) ++ m) (row-more l a) ∙ sym (append-assoc (map (checker (x .call .number)) (x .armed)) (rowOf l) (map (checker (a .call .number)) (a .armed)))
 
-templates-back : (m : ℕ) (l : List ℕ) → map (λ (h : Checker). h .template) (map (checker m) l) ≡ l
+pub templates-back : (m : ℕ) (l : List ℕ) → map (λ (h : Checker). h .template) (map (checker m) l) ≡ l
 templates-back m [] = refl
 templates-back m (i ∷ l) = ap (λ (r : List ℕ). i ∷ r) (templates-back m l)
 

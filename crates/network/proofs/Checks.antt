@@ -28,7 +28,7 @@ use Rattle.step.proofs.Rooms.{every-take}
 use Rattle.step.proofs.Keeping.{every-among, place-map}
 use Rattle.network.specs.declared.Checker.{Checker}
 use Rattle.network.specs.declared.NetworkState.{NetworkState}
-use Rattle.network.specs.declared.event.Tables.{Tables}
+use Rattle.network.specs.declared.sound.Tables.{Tables}
 use Rattle.network.specs.Network.{templateIn, boundTo, ofNumber}
 use Rattle.network.specs.Sound.{callSound, onCall, fourACall, neverFalls, inOrder, checkersSound, sound}
 use Rattle.network.specs.Padded.{view, isZeroChecker, tidy, soundState}

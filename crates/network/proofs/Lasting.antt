@@ -24,7 +24,7 @@ use Rattle.network.specs.declared.NetworkState.{NetworkState}
 use Rattle.network.specs.declared.Offered.{Offered}
 use Rattle.network.specs.Network.{State, fresh, refusal, offer}
 use Rattle.network.specs.Sound.{callSound, sound}
-use Rattle.network.specs.Padded.{zeroChecker, isZeroChecker, pad, view, tidy, soundState, freshOf}
+use Rattle.network.specs.Padded.{zeroChecker, isZeroChecker, pad, tidy, soundState, freshOf}
 use Rattle.network.specs.Answers.{offerRefusal, offerOf}
 use Rattle.network.proofs.Living.{checkers-few}
 use Rattle.network.proofs.Views.{view-back}

@@ -25,7 +25,7 @@ use Rattle.step.proofs.Lists.{any-map, any-keep, kept-passes, least-some}
 use Rattle.step.proofs.Refusing as Refusing
 use Rattle.step.proofs.Keeping.{every-among, among-every, every-keep, length-keep, distinct-keep, distinct-more}
 use Rattle.network.specs.declared.Checker.{Checker}
-use Rattle.network.specs.Network.{State, fresh, templateIn, created, boundTo, fails, failing, ofNumber, entered, exited, refusal, offer}
+use Rattle.network.specs.Network.{State, fresh, templateIn, boundTo, fails, failing, ofNumber, entered, exited, refusal, offer}
 use Rattle.network.specs.Sound.{callSound, onCall, fourACall, neverFalls, inOrder, checkersSound, sound}
 use Rattle.step.proofs.Moving.{network-good, moved-main, moved-variables, verdict-fits}
 use Rattle.network.proofs.Living.{four-fewer}

@@ -1,5 +1,5 @@
 -- What a state shows, and its padded form: each is the other's inverse on sound states. Assumes nothing.
-use mathlib.Core.Path.{_≡_, ap, subst, _∙_}
+use mathlib.Core.Path.{_≡_, subst}
 use mathlib.Core.Bool.{true}
 use mathlib.Core.List.{List, map}
 use Prim.Native.Nat.{ℕ, _≤_}
@@ -22,7 +22,6 @@ use Rattle.network.specs.declared.NetworkState.{NetworkState}
 use Rattle.network.specs.Network.{State}
 use Rattle.network.specs.Sound.{callSound, sound}
 use Rattle.network.specs.Padded.{zeroChecker, pad, view, isZeroChecker, tidy, soundState}
-use Rattle.network.specs.Walk.{Ready}
 use Rattle.network.proofs.Living.{checkers-few}
 
 zero-checker : (h : Checker) → isZeroChecker h ≡ true → h ≡ zeroChecker
@@ -64,19 +63,8 @@ module _ (N : Network) where
       let checkers = take-fit zeroChecker 64 (σ .checkers) room in
       λ i. record { configuration = record { main = σ .configuration .main; variables = variables i }; calls = calls i; checkers = checkers i; position = σ .position; verdict = verdict-outcome (σ .verdict) i }
 
--- A sound state, and a padded one, as the operations take it.
+-- on an accepted network
 module _ {s : List ℕ} (a : Accepted networkLayout s) where
-  pub ready-sound : (w : NetworkState) → soundState (networkOf s) w ≡ true → Ready s w
-  unfolding soundState
-  ready-sound w h =
-      let (o, (l, (t, g))) = simp and-iff at h in
-      record { sound = g; padded = pad-view (networkOf s) w h }
-
   pub view-back : (σ : State) → sound (networkOf s) σ ≡ true → view (networkOf s) (pad σ) ≡ σ
   unfolding networkOf
   view-back σ h = view-pad (networkOf s) σ (bounds a .monitors) (bounds a .programs) (checkers-few (networkOf s) σ h) h
-
-  pub ready-pad : (σ : State) → sound (networkOf s) σ ≡ true → Ready s (pad σ)
-  ready-pad σ h =
-      let e = view-back σ h in
-      record { sound = ap (sound (networkOf s)) e ∙ h; padded = ap pad e }

@@ -3,5 +3,6 @@ pub mod Network
 pub mod Sound
 pub mod Padded
 pub mod Grouped
+pub mod Packed
 pub mod Answers
 pub mod Walk

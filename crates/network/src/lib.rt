@@ -13,8 +13,9 @@ use step::Call;
 use step::Outcome;
 use step::RunAnswer;
 
-mod event;
-mod follow;
+mod accepted;
+mod entry;
+mod pack;
 mod sound;
 
 // A living checker: the number of the open call that it is bound to, and its template.
@@ -113,8 +114,9 @@ impl NetworkState {
 pub fn offer(s: &[u8], state: NetworkState, event: Record, values: &[u32]) -> Offered
     ensures { λ r. ⌜ r ≡ offerOf (now (s .entry)) state (eventOf event (now (values .entry))) ⌝ }
 {
-    match sheet::read_network(s) {
-        Reading::Accepted => follow::offer_accepted(s, state, event, values),
+    let mut plan = [engine::ABSENT; engine::PLAN];
+    match engine::prepare_network(s, &mut plan) {
+        Reading::Accepted => accepted::offer_accepted(s, &plan, state, event, values),
         Reading::Refused(n) => Offered {
             answer: Answer::Refused(n),
             state,
@@ -134,5 +136,5 @@ pub fn run(s: &[u8], log: &[u8]) -> RunAnswer
 pub fn entry_values(state: NetworkState, i: usize) -> [u32; 8]
     ensures { λ r. ⌜ r ≡ entryValues state i ⌝ }
 {
-    event::entry_values(state, i)
+    entry::entry_values(state, i)
 }

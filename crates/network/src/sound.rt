@@ -1,13 +1,14 @@
 // Whether a state is sound on an accepted network.
 
 ghost use mathlib.Core.Path.{_≡_};
-ghost use mathlib.Core.Bool.{_&&_};
 ghost use mathlib.Core.List.{map};
+ghost use Prim.Native.Nat.{_<_};
 ghost use lib.Dec.{eqb, leb, ltb};
 ghost use lib.ListN.{length, take, drop};
 ghost use Rattle.sheet.specs.Table.{every};
 ghost use Rattle.sheet.specs.Decode.{networkOf};
 ghost use Rattle.sheet.specs.Reading.{reading, networkLayout};
+ghost use Rattle.sheet.specs.Answer.{headerOf};
 ghost use Rattle.step.specs.Lists.{keep};
 ghost use Rattle.step.specs.Walk.{placeOf};
 ghost use Rattle.network.specs.Sound.{neverFalls};
@@ -15,11 +16,24 @@ ghost use Rattle.network.specs.Padded.{isZeroChecker, soundState};
 ghost use Rattle.network.specs.Walk.{tablesOf, onCallAt};
 use crate::Checker;
 use crate::NetworkState;
-use crate::event::Tables;
-use crate::event::long;
-use crate::event::wide;
-use crate::event::word;
+use sheet::Header;
 use step::Call;
+
+// The numbers of an accepted network's header, and where its templates begin.
+pub struct Tables {
+    pub header: Header,
+    pub templates: u16,
+}
+
+pub(crate) fn tables_of(s: &[u8], templates: u32) -> Tables
+    requires { ⌜ templates < 65536 ⌝ }
+    ensures { λ r. ⌜ r ≡ record { header = headerOf (now (s .entry)); templates = templates } ⌝ }
+{
+    Tables {
+        header: sheet::header_of(s),
+        templates: templates as u16,
+    }
+}
 
 pub(crate) fn sound(s: &[u8], t: Tables, state: NetworkState) -> bool
     requires { ⌜ (reading networkLayout (now s) ≡ 0) × (t ≡ tablesOf (now s)) ⌝ }
@@ -177,4 +191,22 @@ fn in_order(calls: [Call; 16], opened: usize, checkers: [Checker; 64], living: u
         i += 1;
     }
     true
+}
+
+pub(crate) fn wide(x: u8) -> usize
+    ensures { λ r. ⌜ (r ≡ x) × (r < 256) ⌝ }
+{
+    x as usize
+}
+
+fn word(x: u8) -> u32
+    ensures { λ r. ⌜ (r ≡ x) × (r < 256) ⌝ }
+{
+    x as u32
+}
+
+fn long(x: u16) -> u32
+    ensures { λ r. ⌜ (r ≡ x) × (r < 65536) ⌝ }
+{
+    x as u32
 }

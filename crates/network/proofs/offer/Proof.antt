@@ -1,17 +1,24 @@
 -- `offer` meets its contract. Assumes nothing.
 use borrow.Author.Needs.{needs}
 use Rattle.sheet.proofs.Answers.{answer-accepted}
+use Rattle.engine.specs.Prepared.{networkInto}
+use Rattle.engine.proofs.Preparing.{planned}
 use Rattle.network.proofs.Answering.{offer-unread}
 use Rattle.network.proofs.offer.Statement.{statement}
 use Rattle.network.proofs.offer.Tie as tie
 
 offer-accepted-requires : tie.Need-offer-accepted-requires
-offer-accepted-requires c κs = answer-accepted _ _ (c .before .before .read-network .ensures) (search needs)
+offer-accepted-requires c κs =
+    let a = c .before .before .before .before .before .before .before .args in
+    let h = answer-accepted _ _ (c .before .before .before .prepare-network .ensures .0) (search needs) in
+    (h, planned _ h (networkInto (a .s .now)) _ (c .before .before .before .prepare-network .ensures .1))
 
 returns-2 : tie.Need-returns-2
 returns-2 c =
-    let a = c .before .before .before .before .before .before .args in
-    offer-unread _ _ (c .before .before .before .read-network .ensures) _ (search needs) (a .state) (a .event) (a .values .now)
+    let a = c .before .before .before .before .before .before .before .args in
+    offer-unread (a .s .now) _ (c .before .before .before .prepare-network .ensures .0) _ (search needs) (a .state) (a .event) (a .values .now)
 
 pub offer-spec : {M : Type 1} → statement M
-offer-spec = tie.close (tie.spec (λ c κs. search needs) (λ c. search needs) offer-accepted-requires (λ c. search needs) (λ c. search needs) returns-2)
+offer-spec =
+    tie.close
+    (tie.spec (λ c κs. search needs) (λ c. search needs) offer-accepted-requires (λ c. search needs) (λ c. search needs) returns-2)
