@@ -154,7 +154,7 @@ module _ (calls : List Call) (l : List Checker) (opened : ℕ) (row : List ℕ) 
         let left = wordsIn (drop (i + 1) (take opened calls)) in
         record {
           here = ap₂ (λ (ws : List (List ℕ)) (m : List Checker). ws ++ left m) put rest ∙ append-assoc (entries i row) (wordsOf c (armsOf own) ∷ []) (left (drop (length own) (drop from l)))
-            ∙ ap (λ (cs : List Call). entries i row ++ wordsIn cs (drop from l)) (sym next) ∙ g .here;
+              ∙ ap (λ (cs : List Call). entries i row ++ wordsIn cs (drop from l)) (sym next) ∙ g .here;
           passed = ap (every small) one ∙ every-append small (take i calls) (c ∷ []) ∙ and-both (g .passed) (and-both (and-both (lt-ltb _ _ n) (lt-ltb _ _ u)) refl);
           long = ap length ea ∙ put-length row i c arms (omega arith) (g .long);
           low = omega arith;
