@@ -22,6 +22,7 @@ use Rattle.step.specs.Lists.{any, keep, distinct}
 use Rattle.step.specs.Calls as Calls
 use Rattle.step.specs.Verdicts.{verdictFits, verdictIn}
 use Rattle.step.specs.Walk.{placeOf, unpad}
+use Rattle.step.proofs.Rooms.{tidy-calls}
 use Rattle.step.specs.Padding.{clear, padded, isZeroCall}
 use Rattle.step.proofs.Lists.{Among, any-map}
 use Rattle.step.proofs.Rooms.{every-take}
@@ -81,10 +82,12 @@ on-same {s} a P calls l =
 
 -- A state's zeros, and what it shows.
 module _ (N : Network) (w : NetworkState) (v : length (w .variables) ≡ 4) (long : length (w .calls) ≡ 16) (many : length (w .checkers) ≡ 64) where
-  tidy-parts : (clear (N .common .monitors) (w .variables) && (every (λ (c : Call). padded 8 (N .common .programs) (c .kept)) (w .calls)
-      && (every isZeroCall (drop (w .opened) (w .calls)) && every isZeroChecker (drop (w .living) (w .checkers))))) ≡ tidy N w
+  tidy-parts : (clear (N .common .monitors) (w .variables) && ((every (λ (c : Call). padded 8 (N .common .programs) (c .kept)) (take (w .opened) (w .calls)) && every (λ (c : Call). padded 8 0 (c .kept) && isZeroCall c) (drop (w .opened) (w .calls)))
+      && every isZeroChecker (drop (w .living) (w .checkers)))) ≡ tidy N w
   unfolding tidy
-  tidy-parts = rw (eq-eqb (length (w .variables)) 4 v, eq-eqb (length (w .calls)) 16 long, eq-eqb (length (w .checkers)) 64 many)
+  tidy-parts =
+      rw (tidy-calls (N .common .programs) (w .opened) (w .calls), eq-eqb (length (w .variables)) 4 v, eq-eqb (length (w .calls)) 16 long, eq-eqb (length (w .checkers)) 64 many)
+      (ap (λ (b : Bool). clear (N .common .monitors) (w .variables) && b) (and-assoc (every (λ (c : Call). padded 8 (N .common .programs) (c .kept)) (w .calls)) (every isZeroCall (drop (w .opened) (w .calls))) (every isZeroChecker (drop (w .living) (w .checkers)))))
 
   kept-long : tidy N w ≡ true → every (λ (c : Call). padded 8 (N .common .programs) (c .kept)) (take (w .opened) (w .calls)) ≡ true
   unfolding tidy
@@ -118,8 +121,8 @@ pub sound-is : (s : List ℕ) (t : Tables) → (reading networkLayout s ≡ 0) �
     → (w : NetworkState) (o : ℕ) → (o ≡ w .opened) × (length (w .variables) ≡ 4) × (length (w .calls) ≡ 16) × (length (w .checkers) ≡ 64)
     → (l : ℕ) → (l ≡ w .living) × (l < 256) → (m : ℕ) → (m ≡ t .header .monitors) × (m < 256) → (p : ℕ) → (p ≡ t .header .programs) × (p < 256)
     → (b₁ : Bool) → b₁ ≡ clear m (w .variables)
-    → (b₂ : Bool) → b₂ ≡ every (λ (c : Call). padded 8 p (c .kept)) (w .calls)
-    → (b₃ : Bool) → b₃ ≡ every isZeroCall (drop o (w .calls))
+    → (b₂ : Bool) → b₂ ≡ every (λ (c : Call). padded 8 p (c .kept)) (take o (w .calls))
+    → (b₃ : Bool) → b₃ ≡ every (λ (c : Call). padded 8 0 (c .kept) && isZeroCall c) (drop o (w .calls))
     → (b₄ : Bool) → b₄ ≡ every isZeroChecker (drop l (w .checkers))
     → (b₅ : Bool) → b₅ ≡ distinct (map (λ (c : Call). c .number) (take o (w .calls)))
     → (b₆ : Bool) → b₆ ≡ every (λ (c : Call). ltb (c .unit) (t .header .units)) (take o (w .calls))
@@ -127,7 +130,7 @@ pub sound-is : (s : List ℕ) (t : Tables) → (reading networkLayout s ≡ 0) �
     → (b₈ : Bool) → b₈ ≡ every (λ (c : Call). leb (length (keep (λ (h : Checker). eqb (h .number) (c .number)) (take l (w .checkers)))) 4) (take o (w .calls))
     → (b₉ : Bool) → b₉ ≡ neverFalls 0 (map (λ (h : Checker). placeOf (λ (c : Call). eqb (c .number) (h .number)) (take o (w .calls))) (take l (w .checkers)))
     → (b₀ : Bool) → b₀ ≡ verdictFits (t .header .bad) (t .header .last) (w .main) (w .position) (verdictIn (w .outcome))
-    → ((leb o 16 && leb l 64) && ((b₁ && (b₂ && (b₃ && b₄))) && (ltb (w .main) (t .header .states) && ((b₅ && b₆) && ((b₇ && (b₈ && b₉)) && b₀))))) ≡ soundState (networkOf s) w
+    → ((leb o 16 && leb l 64) && ((b₁ && ((b₂ && b₃) && b₄)) && (ltb (w .main) (t .header .states) && ((b₅ && b₆) && ((b₇ && (b₈ && b₉)) && b₀))))) ≡ soundState (networkOf s) w
 unfolding soundState networkOf commonOf
 sound-is s t (h, e) w o (f, v, long, many) l (g, ll) m (k, mm) p (q, pp) b₁ e₁ b₂ e₂ b₃ e₃ b₄ e₄ b₅ e₅ b₆ e₆ b₇ e₇ b₈ e₈ b₉ e₉ b₀ e₀ =
     let a = accepted networkLayout s h in

@@ -11,15 +11,13 @@ use lib.ListN.{length, getD, take, drop, length-map, length-take}
 use lib.Seq.{take-at, take-all, drop-append-add}
 use Rattle.sheet.specs.Table.{every, fit}
 use Rattle.sheet.specs.Parts.{Network, Common}
-use Rattle.sheet.specs.declared.Header.{Header}
 use Rattle.sheet.specs.declared.Record.{Record}
 use Rattle.sheet.specs.Log.{Event}
 use Rattle.sheet.specs.Bytes.{half}
 use Rattle.sheet.specs.Answer.{headerOf}
-use Rattle.sheet.specs.Decode.{pairedForm, lastAt, commonOf, networkOf}
+use Rattle.sheet.specs.Decode.{pairedForm, lastAt, networkOf}
 use Rattle.sheet.specs.Reading.{reading, networkLayout, lastOf}
 use Rattle.sheet.proofs.Accepted.{accepted, length-said}
-use Rattle.sheet.proofs.Limits.{table-places}
 use Rattle.sheet.proofs.Tables.{and-parts, and-both, every-weaker}
 use Rattle.sheet.proofs.Tests.{and-iff, not-iff, eqb-iff, leb-iff}
 use Rattle.step.specs.declared.Call.{Call}
@@ -285,12 +283,15 @@ module _ (s plan : List ℕ) (w : NetworkState) (event : Record) (values : List 
 
   pub offer-taken : next .answer ≡ 0 → (row₁ variables₁ : List ℕ)
       → (row₁ ≡ offerIn s plan (words run row (w .variables)) given eight .state .row) × (variables₁ ≡ offerIn s plan (words run row (w .variables)) given eight .state .variables)
-      → (h : Header) → h ≡ headerOf s → (programs monitors : ℕ) → programs ≡ h .programs → monitors ≡ h .monitors → (state : NetworkState) → state ≡ unpacked programs monitors (words (next .run) row₁ variables₁)
+      → (programs monitors : ℕ) → programs ≡ getD plan 1 0 → monitors ≡ getD plan 2 0 → (state : NetworkState) → state ≡ unpacked programs monitors (words (next .run) row₁ variables₁)
       → offeredWith Answer.Taken state ≡ offerOf s w (eventOf event values)
-  unfolding networkOf commonOf
-  offer-taken z row₁ variables₁ (e₁, e₂) h eh programs monitors ep em state es =
+  unfolding ofNetwork
+  offer-taken z row₁ variables₁ (e₁, e₂) programs monitors ep em state es =
+      let c = carried s (pre .0) (pre .1) w (pre .3) row (ew .0) (ew .2) (eventOf event values) in
+      let lent : programs ≡ networkOf s .common .programs = ep ∙ ap (λ (p : List ℕ). getD p 1 0) (pre .2) ∙ c .programs in
+      let held : monitors ≡ networkOf s .common .monitors = em ∙ ap (λ (p : List ℕ). getD p 2 0) (pre .2) ∙ c .monitors in
       let words-after : words (next .run) row₁ variables₁ ≡ after .state = (λ i. words (en i .run) (e₁ i) (e₂ i)) ∙ ap (λ (o : Offered Words). o .state) came in
-      let made : state ≡ unpacked (headerOf s .programs) (headerOf s .monitors) (after .state) = es ∙ (λ i. unpacked ((ep ∙ ap (λ (x : Header). x .programs) eh) i) ((em ∙ ap (λ (x : Header). x .monitors) eh) i) (words-after i)) in
+      let made : state ≡ unpacked (networkOf s .common .programs) (networkOf s .common .monitors) (after .state) = es ∙ (λ i. unpacked (lent i) (held i) (words-after i)) in
       offer-takes s w event values (pre .0) (pre .3) (next .answer) answered z state (made ∙ state-there s (pre .0) (pre .1) w (pre .3) row (ew .0) (ew .2) (eventOf event values) (ew .1) (eg .1) (eg .2))
 
 -- At most sixteen calls of a sound state are open, and at most sixty-four checkers live.
@@ -304,10 +305,7 @@ module _ (s plan : List ℕ) (pre : (reading networkLayout s ≡ 0) × (plan ≡
   short-said = omega (arith, length-said (accepted networkLayout s (pre .0)), said .0, said .1)
 
   begins : getD plan 5 0 ≡ lastAt pairedForm s
-  begins = ap (λ (p : List ℕ). getD p 5 0) (pre .1) ∙ network-planned (accepted networkLayout s (pre .0)) .begins
-
-  pub templates-near : getD plan 5 0 < 65536
-  templates-near = rw begins (table-places (accepted networkLayout s (pre .0)) 65536 short-said .1)
+  begins = ap (λ (p : List ℕ). getD p 5 0) (pre .1) ∙ network-planned (accepted networkLayout s (pre .0)) (omega (arith, short-said)) .begins
 
   pub tables-there : (t : Tables) → t ≡ record { header = headerOf s; templates = getD plan 5 0 } → t ≡ tablesOf s
   tables-there t e = e ∙ (λ i. record { header = headerOf s; templates = begins i })

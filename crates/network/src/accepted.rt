@@ -23,7 +23,7 @@ use step::Answer;
 
 pub(crate) fn offer_accepted(
     s: &[u8],
-    plan: &[u32; PLAN],
+    plan: &[u16; PLAN],
     state: NetworkState,
     event: Record,
     values: &[u32],
@@ -45,7 +45,7 @@ pub(crate) fn offer_accepted(
 
 fn offer_sound(
     s: &[u8],
-    plan: &[u32; PLAN],
+    plan: &[u16; PLAN],
     state: NetworkState,
     event: Record,
     values: &[u32],
@@ -53,7 +53,6 @@ fn offer_sound(
     requires { ⌜ (reading networkLayout (now s) ≡ 0) × (length (now s) < 65536) × (now plan ≡ networkPlan (now s)) × (soundState (networkOf (now s)) state ≡ true) ⌝ }
     ensures { λ r. ⌜ r ≡ offerOf (now (s .entry)) state (eventOf event (now (values .entry))) ⌝ }
 {
-    let h = sheet::header_of(s);
     let given = engine::pack::given(event, values);
     let eight = step::rows::eight(values);
     let run = pack::running(state);
@@ -61,8 +60,8 @@ fn offer_sound(
     let mut variables = state.variables;
     let next = engine::advance(s, plan, run, &mut row, &mut variables, given, &eight);
     if next.answer == 0 {
-        let programs = wide(h.programs);
-        let monitors = wide(h.monitors);
+        let programs = sound::broad(plan[1]);
+        let monitors = sound::broad(plan[2]);
         Offered {
             answer: Answer::Taken,
             state: pack::unpack(next.run, &row, &variables, programs, monitors),

@@ -25,13 +25,12 @@ pub struct Tables {
     pub templates: u16,
 }
 
-pub(crate) fn tables_of(s: &[u8], templates: u32) -> Tables
-    requires { ⌜ templates < 65536 ⌝ }
+pub(crate) fn tables_of(s: &[u8], templates: u16) -> Tables
     ensures { λ r. ⌜ r ≡ record { header = headerOf (now (s .entry)); templates = templates } ⌝ }
 {
     Tables {
         header: sheet::header_of(s),
-        templates: templates as u16,
+        templates,
     }
 }
 
@@ -46,9 +45,10 @@ pub(crate) fn sound(s: &[u8], t: Tables, state: NetworkState) -> bool
     let outcome = state.outcome;
     let calls = state.calls;
     let checkers = state.checkers;
+    let calls_tidy = step::rows::kept_clear(calls, opened, wide(h.programs))
+        & step::rows::calls_clear(calls, opened);
     let tidy = step::rows::clear_from(&variables, wide(h.monitors))
-        & (step::rows::kept_clear(calls, wide(h.programs))
-            & (step::rows::calls_clear(calls, opened) & checkers_clear(checkers, living)));
+        & (calls_tidy & checkers_clear(checkers, living));
     let row = step::rows::numbers_distinct(calls, opened) & units_below(calls, opened, h.units);
     let bound = on_calls(s, t.templates, h.last, calls, opened, checkers, living)
         & (four_a_call(calls, opened, checkers, living)
@@ -209,4 +209,10 @@ fn long(x: u16) -> u32
     ensures { λ r. ⌜ (r ≡ x) × (r < 65536) ⌝ }
 {
     x as u32
+}
+
+pub(crate) fn broad(x: u16) -> usize
+    ensures { λ r. ⌜ (r ≡ x) × (r < 65536) ⌝ }
+{
+    x as usize
 }

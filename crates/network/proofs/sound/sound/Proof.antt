@@ -13,19 +13,19 @@ returns c =
     let units = on .before in
     let numbers = units .before in
     let checkers = numbers .before in
-    let calls = checkers .before in
+    let variables = checkers .before in
+    let monitors = variables .before in
+    let calls = monitors .before .before in
     let kept = calls .before in
     let programs = kept .before in
-    let variables = programs .before in
-    let monitors = variables .before in
-    let living = monitors .before .before .before .before .before in
+    let living = programs .before .before .before .before in
     let opened = living .before in
     let start = opened .before .before .before in
-    sound-is (start .args .s .now) (start .args .t) (start .pre) (start .args .state) _ (opened .opened-in .ensures) _ (living .wide .ensures) _ (monitors .wide2 .ensures) _ (programs .wide3 .ensures)
+    sound-is (start .args .s .now) (start .args .t) (start .pre) (start .args .state) _ (opened .opened-in .ensures) _ (living .wide .ensures) _ (monitors .wide3 .ensures) _ (programs .wide2 .ensures)
     _ (variables .clear-from .ensures) _ (kept .kept-clear .ensures) _ (calls .calls-clear .ensures) _ (checkers .checkers-clear .ensures)
     _ (numbers .numbers-distinct .ensures) _ (units .units-below .ensures) _ (on .on-calls .ensures) _ (four .four-a-call .ensures) _ (order .in-order .ensures) _ (fits .outcome-fits .ensures)
 
 pub sound-spec : {M : Type 1} → statement M
 sound-spec =
     tie.close
-    (tie.spec (λ c κs. search needs) (λ c κs. search needs) (λ c. search needs) (λ c κs. search needs) (λ c κs. search needs) (λ c κs. search needs) (λ c κs. search needs) (λ c κs. search needs) (λ c κs. search needs) (λ c κs. search needs) (λ c κs. search needs) (λ c κs. search needs) (λ c κs. search needs) (λ c κs. search needs) (λ c κs. search needs) returns)
+    (tie.spec (λ c κs. search needs) (λ c κs. search needs) (λ c κs. search needs) (λ c κs. search needs) (λ c κs. search needs) (λ c. search needs) (λ c κs. search needs) (λ c κs. search needs) (λ c κs. search needs) (λ c κs. search needs) (λ c κs. search needs) (λ c κs. search needs) (λ c κs. search needs) (λ c κs. search needs) (λ c κs. search needs) returns)

@@ -12,4 +12,4 @@ returns c =
     ap made (c .header-of .ensures)
 
 pub tables-of-spec : {M : Type 1} → statement M
-tables-of-spec = tie.close (tie.spec (λ c κs. search needs) (λ c. search needs) returns)
+tables-of-spec = tie.close (tie.spec (λ c κs. search needs) returns)
