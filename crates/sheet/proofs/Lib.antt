@@ -4,7 +4,7 @@ pub mod Tables
 pub mod Loops
 pub mod Widths
 pub mod Found
-pub mod Crowd
+pub mod Tallies
 pub mod Indexing
 pub mod Suits
 pub mod Refusals

@@ -4,7 +4,7 @@ use mathlib.Core.Bool.{Bool, true, false, not, _&&_}
 use mathlib.Core.List.{List, [], _∷_}
 use Prim.Native.Nat.{ℕ, _≤_}
 use native.Mathlib.Omega.{arith}
-use borrow.Author.Tests.{ltb-true, ltb-false}
+use borrow.Author.Tests.{ltb-true, ltb-false, lt-ltb}
 use lib.Dec.{eqb, ltb, leb}
 use lib.ListN.{length, getD, drop, List·getD-eq-default}
 use Rattle.condition.specs.declared.Lent.{Lent}
@@ -22,9 +22,9 @@ use Rattle.sheet.specs.Table.{table, starts, fit, every}
 use Rattle.sheet.specs.Parts.{Paired}
 use Rattle.sheet.specs.Decode.{wide, textForm, transitionForm, tripleForm, pairedForm, templateForm, conditionsIn, actionsIn, transitionsIn, lastIn, lastAt, conditionsAt, actionsAt, transitionsAt, commonOf}
 use Rattle.sheet.specs.Reading.{together, transitionRanged, tripleRanged, templateRanged, countsOf, countsHold, Layout, Use, guard, precondition, postcondition, between, lentIn, conditionIn, usedWell, whole, counted, tabled, formed, ranged, roled, transitionsOf, lastOf, reading, sheetLayout, networkLayout}
-use Rattle.sheet.specs.Walk.{pairedRanged, Finds, conditionLengths, actionLengths, tablesOf, namesAt, guardSuits, preconditionSuits, tripleSuits, pairedSuits, templateSuits}
+use Rattle.sheet.specs.Walk.{pairedRanged, within, Finds, conditionLengths, actionLengths, tablesOf, namesAt, guardSuits, preconditionSuits, tripleSuits, pairedSuits, templateSuits}
 use Rattle.sheet.proofs.Tests.{and-iff, leb-iff}
-use Rattle.sheet.proofs.Tables.{and-assoc, and-true, length-records, indexed, every-same, every-map}
+use Rattle.sheet.proofs.Tables.{and-parts, and-both, and-assoc, and-true, length-records, indexed, every-same, every-map, every-weaker}
 
 -- the cascade, each step under those before it
 module _ {T R : Type 0} (F : Layout T R) (s : List ℕ) where
@@ -206,3 +206,17 @@ counted-is F s b e = e
 
 pub spread-is : (s : List ℕ) (a n : ℕ) → a ≡ lastAt transitionForm s → n ≡ lastIn s → (b : Bool) → every (λ t. leb (together t (table tripleForm n s a)) 4) (table tripleForm n s a) ≡ b → sheetLayout .spread (lastOf sheetLayout s) ≡ b
 spread-is s a n e f b h = rw (e, f) at h
+
+-- what 3 and 6 leave of a triple
+within-counts : (k : Counts) → k .states ≤ 16 → k .units ≤ 16 → (t : Triple) → tripleRanged k t ≡ true → within t ≡ true
+unfolding tripleRanged
+within-counts k q u t e =
+    let f = simp (and-iff, leb-iff) at e in
+    and-both (lt-ltb (t .state) 16 (omega arith)) (lt-ltb (t .unit) 16 (omega arith))
+
+pub all-within : (s : List ℕ) (a n : ℕ) → a ≡ lastAt transitionForm s → n ≡ lastIn s → countsHold 64 32 64 s ≡ true → ranged sheetLayout (commonOf s) (transitionsOf sheetLayout s) (lastOf sheetLayout s) ≡ true → every within (table tripleForm n s a) ≡ true
+unfolding ranged commonOf
+all-within s a n e f c r =
+    let h = simp (and-iff, leb-iff) at c in
+    let k = countsOf (commonOf s) in
+    rw (e, f) (every-weaker (tripleRanged k) within (within-counts k (omega arith) (omega arith)) (lastOf sheetLayout s) (and-parts (every (transitionRanged k) (transitionsOf sheetLayout s)) (every (tripleRanged k) (lastOf sheetLayout s)) r .1))

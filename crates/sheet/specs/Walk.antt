@@ -83,6 +83,10 @@ pairedSuits s index n L t = guardSuits s index n L (t .base) && every (pairSuits
 abbrev pub templateSuits : List ℕ → List ℕ → ℕ → Lent → Template → Bool
 templateSuits s index n L t = not (namesAt isMonitor s index n L (t .postcondition))
 
+-- a triple of one of sixteen states and one of sixteen units, which 3 and 6 leave
+abbrev pub within : Triple → Bool
+within t = ltb (t .state) 16 && ltb (t .unit) 16
+
 -- 6 of a transition with pairs
 abbrev pub pairedRanged : Counts → List Template → Paired → Bool
 pairedRanged n rs t = transitionRanged n (t .base) && every (pairRanged n rs (t .base)) (t .pairs)

@@ -1,7 +1,6 @@
 // Numbers in bytes, big-endian. A byte past the end reads as 0.
 
 ghost use mathlib.Core.Path.{_≡_};
-ghost use mathlib.Core.Bool.{cond};
 ghost use Prim.Native.Nat.{_/_, _^_, _≤_, _<_};
 ghost use lib.ListN.{drop};
 ghost use Rattle.sheet.specs.Bytes.{byte, half, word};
@@ -23,12 +22,6 @@ pub(crate) fn place(x: u32) -> usize
     ensures { λ r. ⌜ (r ≡ x) × (r < 4294967296) ⌝ }
 {
     x as usize
-}
-
-pub(crate) fn bit(b: bool) -> usize
-    ensures { λ r. ⌜ (r ≡ cond b 1 0) × (r ≤ 1) ⌝ }
-{
-    if b { 1 } else { 0 }
 }
 
 pub(crate) fn number(s: &[u8], at: usize) -> usize

@@ -3,7 +3,7 @@ use mathlib.Core.Path.{sym, _∙_}
 use mathlib.Core.Bool.{true, false}
 use native.Mathlib.Omega.{arith}
 use Rattle.sheet.specs.Reading.{sheetLayout}
-use Rattle.sheet.proofs.Refusals.{refuse-1, refuse-2, refuse-3, refuse-4, refuse-5, refuse-6, refuse-7, refuse-8, refuse-none, counted-is, tabled-is, texts-there, last-there, few-conditions, spread-is}
+use Rattle.sheet.proofs.Refusals.{refuse-1, refuse-2, refuse-3, refuse-4, refuse-5, refuse-6, refuse-7, refuse-8, refuse-none, counted-is, tabled-is, texts-there, last-there, few-conditions, spread-is, all-within}
 use borrow.Author.Needs.{needs}
 use Rattle.sheet.proofs.read.sheet_refusal.Statement.{statement}
 use Rattle.sheet.proofs.read.sheet_refusal.Tie as tie
@@ -35,6 +35,9 @@ sheet-roled-requires c κs = (c .before .before .before .before .before .before 
 returns-7 : tie.Need-returns-7
 returns-7 c = refuse-7 sheetLayout _ (sym (c .before .before .before .before .before .before .before .before .before .before .before .before .before .before .before .whole .ensures) ∙ c .before .before .before .before .before .before .before .before .before .before .before .before .before .before .if1 .taken) (sym (c .before .before .before .before .before .before .before .before .before .before .before .before .before .version-is .ensures) ∙ c .before .before .before .before .before .before .before .before .before .before .before .before .if2 .taken) (counted-is sheetLayout _ true (sym (c .before .before .before .before .before .before .before .before .before .before .before .counts-hold .ensures) ∙ c .before .before .before .before .before .before .before .before .before .before .if3 .taken)) (tabled-is sheetLayout _ _ (c .before .before .before .before .before .before .before .before .before .sheet-tables .ensures) true (c .before .before .before .before .before .before .if4 .taken)) (sym (c .before .before .before .before .before .texts-formed .ensures) ∙ c .before .before .before .before .if5 .taken) (sym (c .before .before .before .sheet-ranged .ensures) ∙ c .before .before .if6 .taken) (sym (c .before .sheet-roled .ensures) ∙ c .if7 .left)
 
+spread-requires : tie.Need-spread-requires
+spread-requires c κs = (search needs, search needs, all-within (c .before .before .before .before .before .before .before .before .before .before .before .before .before .before .before .before .before .before .args .s .now) _ _ (last-there sheetLayout _ _ (c .before .before .before .before .before .before .before .before .before .before .sheet-tables .ensures)) (c .number .ensures .0) (sym (c .before .before .before .before .before .before .before .before .before .before .before .before .counts-hold .ensures) ∙ c .before .before .before .before .before .before .before .before .before .before .before .if3 .taken) (sym (c .before .before .before .before .sheet-ranged .ensures) ∙ c .before .before .before .if6 .taken))
+
 returns-8 : tie.Need-returns-8
 returns-8 c = refuse-8 sheetLayout _ (sym (c .before .before .before .before .before .before .before .before .before .before .before .before .before .before .before .before .before .before .whole .ensures) ∙ c .before .before .before .before .before .before .before .before .before .before .before .before .before .before .before .before .before .if1 .taken) (sym (c .before .before .before .before .before .before .before .before .before .before .before .before .before .before .before .before .version-is .ensures) ∙ c .before .before .before .before .before .before .before .before .before .before .before .before .before .before .before .if2 .taken) (counted-is sheetLayout _ true (sym (c .before .before .before .before .before .before .before .before .before .before .before .before .before .before .counts-hold .ensures) ∙ c .before .before .before .before .before .before .before .before .before .before .before .before .before .if3 .taken)) (tabled-is sheetLayout _ _ (c .before .before .before .before .before .before .before .before .before .before .before .before .sheet-tables .ensures) true (c .before .before .before .before .before .before .before .before .before .if4 .taken)) (sym (c .before .before .before .before .before .before .before .before .texts-formed .ensures) ∙ c .before .before .before .before .before .before .before .if5 .taken) (sym (c .before .before .before .before .before .before .sheet-ranged .ensures) ∙ c .before .before .before .before .before .if6 .taken) (sym (c .before .before .before .before .sheet-roled .ensures) ∙ c .before .before .before .if7 .taken) (spread-is _ _ _ (last-there sheetLayout _ _ (c .before .before .before .before .before .before .before .before .before .before .before .before .sheet-tables .ensures)) (c .before .before .number .ensures .0) _ (sym (c .before .spread .ensures) ∙ c .if8 .left))
 
@@ -44,4 +47,4 @@ returns-9 c = refuse-none sheetLayout _ (sym (c .before .before .before .before 
 pub sheet-refusal-spec : {M : Type 1} → statement M
 sheet-refusal-spec =
     tie.close
-    (tie.spec (λ c κs. search needs) returns (λ c κs. search needs) returns-2 (λ c κs. search needs) returns-3 (λ c κs. search needs) returns-4 texts-formed-requires returns-5 (λ c κs. search needs) returns-6 sheet-roled-requires returns-7 (λ c κs. search needs) (λ c κs. search needs) returns-8 returns-9)
+    (tie.spec (λ c κs. search needs) returns (λ c κs. search needs) returns-2 (λ c κs. search needs) returns-3 (λ c κs. search needs) returns-4 texts-formed-requires returns-5 (λ c κs. search needs) returns-6 sheet-roled-requires returns-7 (λ c κs. search needs) spread-requires returns-8 returns-9)
