@@ -11,9 +11,8 @@ use lib.ListN.{length, getD, set, take, drop, length-map, length-drop}
 use lib.Seq.{sets, take-set-le, drop-set-add}
 use Rattle.sheet.specs.Log.{Event}
 use Rattle.sheet.proofs.Tests.{and-iff, not-iff}
-use Rattle.step.specs.Lists.{any, keep, distinct}
+use Rattle.step.specs.Lists.{any, keep, distinct, placeOf}
 use Rattle.step.specs.Calls.{Call, openNumber, openFor}
-use Rattle.step.specs.Walk.{placeOf}
 use Rattle.step.proofs.Lists.{any-map}
 use Rattle.step.proofs.Keeping.{keep-map, all-stay}
 use Rattle.step.proofs.Searching.{any-place}

@@ -15,12 +15,12 @@ use Rattle.sheet.specs.Table.{every, fit}
 use Rattle.sheet.specs.Log.{Event}
 use Rattle.sheet.proofs.Tests.{eqb-iff}
 use Rattle.step.specs.declared.Verdict.{Verdict}
-use Rattle.step.specs.Lists.{first, keep, any, least, distinct}
+use Rattle.step.specs.Lists.{first, keep, any, least, distinct, placeOf}
 use Rattle.step.specs.Moves.{Configuration, seen, moved}
 use Rattle.step.specs.Calls.{Call, isEntry, lastPosition, refusalsFor, refusals, lowest}
 use Rattle.step.specs.Verdicts.{verdict, verdictFor, isJudged, verdictIn, outcomeOf}
 use Rattle.step.specs.Runs.{offered}
-use Rattle.step.specs.Walk.{placeOf, numberIn, leastOf, refusalBy}
+use Rattle.step.specs.Walk.{numberIn, leastOf, refusalBy}
 use Rattle.step.proofs.Lists.{Among, any-map, first-passes, kept-passes}
 use Rattle.step.proofs.Moving.{moved-variables}
 use Rattle.step.proofs.Refusing.{refusal-asked, entry-room, exit-open}

@@ -11,11 +11,11 @@ use Rattle.condition.specs.Meaning.{Environment, environment}
 use Rattle.condition.specs.Answer.{actionPaper, actionOutcome, holdsFrom, textFrom}
 use Rattle.sheet.specs.Table.{fit}
 use Rattle.sheet.specs.Log.{Event}
-use Rattle.step.specs.Lists.{first, keep}
+use Rattle.step.specs.Lists.{first, keep, placeOf}
 use Rattle.step.specs.Calls.{lastPosition}
 use Rattle.step.specs.Verdicts.{isJudged, verdictFor, outcomeOf, verdictIn}
 use Rattle.step.specs.Runs.{Offered, offered}
-use Rattle.step.specs.Walk.{placeOf, leastOf, numberIn}
+use Rattle.step.specs.Walk.{leastOf, numberIn}
 use Rattle.engine.specs.declared.Running.{Running}
 use Rattle.engine.specs.declared.Given.{Given}
 use Rattle.engine.specs.Plan.{unitsIn, programsIn, monitorsIn, badIn, cellOf, firstOf, guardOf, actionOf, targetOf, gapOf, candidateOf, askedOf, numberOf, behindOf, postOf}

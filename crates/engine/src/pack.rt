@@ -4,7 +4,7 @@ ghost use mathlib.Core.Path.{_≡_};
 ghost use mathlib.Core.Bool.{cond};
 ghost use Prim.Native.Nat.{_%_, _<_};
 ghost use lib.ListN.{length};
-ghost use Rattle.step.specs.Walk.{eventOf};
+ghost use Rattle.step.specs.Calls.{eventOf};
 ghost use Rattle.engine.specs.Packed.{putAt, callAt, armsAt};
 ghost use Rattle.engine.specs.Walk.{givenOf};
 use crate::Given;

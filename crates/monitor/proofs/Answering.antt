@@ -11,7 +11,7 @@ use Rattle.sheet.specs.Reading.{reading, sheetLayout}
 use Rattle.sheet.specs.Answer.{answer}
 use Rattle.step.specs.declared.Answer.{Answer}
 use Rattle.step.specs.declared.Answer.the-variants as offer
-use Rattle.step.specs.Walk.{eventOf}
+use Rattle.step.specs.Calls.{eventOf}
 use Rattle.monitor.specs.declared.WatchState.{WatchState}
 use Rattle.monitor.specs.declared.Offered.{Offered}
 use Rattle.monitor.specs.Monitor as Monitor

@@ -17,3 +17,4 @@ pub mod Testing
 pub mod Checks
 pub mod Machined
 pub mod Packed
+pub mod Lasting

@@ -22,7 +22,7 @@ use Rattle.sheet.proofs.Tables.{and-parts, and-both, every-weaker, every-append
 use Rattle.sheet.proofs.Tests.{and-iff, eqb-iff, leb-iff}
 use Rattle.step.specs.declared.Call.{Call}
 use Rattle.step.specs.declared.Answer.the-variants as Answer
-use Rattle.step.specs.Walk.{eventOf}
+use Rattle.step.specs.Calls.{eventOf}
 use Rattle.step.specs.Lists.{beside}
 use Rattle.step.specs.Padding.{zeroCall, padded}
 use Rattle.step.specs.Verdicts.{outcomeOf}

@@ -1,7 +1,7 @@
 -- States as the operations hold them: arrays with zeros behind what is there.
 use mathlib.Core.Bool.{Bool, _&&_}
 use mathlib.Core.List.{List, map}
-use Prim.Native.Nat.{ℕ, zero, suc}
+use Prim.Native.Nat.{ℕ}
 use lib.Dec.{eqb, leb}
 use lib.ListN.{length, replicate, take, drop}
 use Rattle.sheet.specs.Table.{every, fit}
@@ -14,8 +14,8 @@ use Rattle.step.specs.declared.Outcome.the-variants.{Open}
 use Rattle.step.specs.Lists.{beside}
 use Rattle.step.specs.Calls.{mostCalls}
 use Rattle.step.specs.Verdicts.{outcomeOf, verdictIn}
-use Rattle.step.specs.Walk.{unpad}
-use Rattle.step.specs.Padding.{zeroCall, padCall, clear, padded, isZeroCall}
+use Rattle.step.specs.Answers.{unlessTaken}
+use Rattle.step.specs.Padding.{unpad, zeroCall, padCall, clear, padded, isZeroCall}
 use Rattle.monitor.specs.declared.Arms.{Arms}
 use Rattle.monitor.specs.declared.WatchState.{WatchState}
 use Rattle.monitor.specs.declared.Fresh.{Fresh}
@@ -75,10 +75,6 @@ tidy S w =
 unfoldable pub soundState : Sheet → WatchState → Bool
 soundState S w = leb (w .opened) mostCalls && (tidy S w && sound S (view S w))
 
-abbrev pub whenAccepted : ℕ → WatchState → WatchState
-whenAccepted zero τ = τ
-whenAccepted (suc n) τ = zeroState
-
 -- "Making a fresh state: the reading refusals, with an all-zero state."
 unfoldable pub freshOf : List ℕ → Fresh
-freshOf s = record { reading = answer (reading sheetLayout s); state = whenAccepted (reading sheetLayout s) (pad (fresh (sheetOf s))) }
+freshOf s = record { reading = answer (reading sheetLayout s); state = unlessTaken (reading sheetLayout s) zeroState (pad (fresh (sheetOf s))) }

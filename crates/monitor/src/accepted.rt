@@ -5,7 +5,7 @@ ghost use mathlib.Core.Path.{_≡_};
 ghost use mathlib.Core.Bool.{true};
 ghost use Rattle.sheet.specs.Decode.{sheetOf};
 ghost use Rattle.sheet.specs.Reading.{reading, sheetLayout};
-ghost use Rattle.step.specs.Walk.{eventOf};
+ghost use Rattle.step.specs.Calls.{eventOf};
 ghost use Rattle.engine.specs.Prepared.{sheetPlan};
 ghost use Rattle.monitor.specs.Answers.{offerOf};
 ghost use Rattle.monitor.specs.Padded.{soundState};

@@ -5,7 +5,7 @@ ghost use Rattle.monitor.specs.Answers.{offerOf, runOf};
 ghost use Rattle.monitor.specs.Padded.{zeroState, pad, freshOf};
 ghost use Rattle.monitor.specs.Monitor.{fresh};
 ghost use Rattle.sheet.specs.Decode.{sheetOf};
-ghost use Rattle.step.specs.Walk.{eventOf};
+ghost use Rattle.step.specs.Calls.{eventOf};
 use sheet::Reading;
 use sheet::Record;
 use step::Answer;

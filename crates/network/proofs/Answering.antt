@@ -12,7 +12,7 @@ use Rattle.sheet.specs.Reading.{reading, networkLayout}
 use Rattle.sheet.specs.Answer.{answer}
 use Rattle.step.specs.declared.Answer.{Answer}
 use Rattle.step.specs.declared.Answer.the-variants as offer
-use Rattle.step.specs.Walk.{eventOf}
+use Rattle.step.specs.Calls.{eventOf}
 use Rattle.step.proofs.Runs.{refused-with, unread-offer}
 use Rattle.network.specs.declared.NetworkState.{NetworkState}
 use Rattle.network.specs.declared.Offered.{Offered}

@@ -10,8 +10,7 @@ use lib.ListN.{length, getD, take, replicate, length-take}
 use lib.Seq.{getD-take}
 use Rattle.sheet.proofs.Tables.{and-parts}
 use Rattle.step.specs.declared.Call.{Call}
-use Rattle.step.specs.Lists.{first, any}
-use Rattle.step.specs.Walk.{placeOf}
+use Rattle.step.specs.Lists.{first, any, placeOf}
 use Rattle.step.proofs.Lists.{headOf, first-keep, keep-none}
 use Rattle.step.proofs.Searching.{any-place}
 use Rattle.step.proofs.Keeping.{first-place}

@@ -1,11 +1,11 @@
 -- A sound state as the operations hold it: it is found sound, so an event never meets 9 there. Assumes nothing.
-use mathlib.Core.Path.{_≡_, refl, ap, subst, _∙_}
-use mathlib.Core.Bool.{Bool, true}
+use mathlib.Core.Path.{_≡_, refl, sym, ap, subst, _∙_}
+use mathlib.Core.Bool.{true}
 use mathlib.Core.List.{List, [], _∷_, map}
 use Prim.Native.Nat.{ℕ, zero, suc}
 use borrow.Author.Tests.{le-leb, eq-eqb}
 use lib.Dec.{eqb}
-use lib.ListN.{length, drop, replicate, length-map}
+use lib.ListN.{length, drop, length-map}
 use Rattle.sheet.specs.Table.{every, fit}
 use Rattle.sheet.specs.Decode.{networkOf}
 use Rattle.sheet.specs.Reading.{networkLayout}
@@ -19,46 +19,22 @@ use Rattle.step.specs.Calls as Calls
 use Rattle.step.specs.Runs.{offered}
 use Rattle.step.specs.Answers.{answerOf, unlessTaken}
 use Rattle.step.specs.Padding.{zeroCall, padCall, clear, padded, isZeroCall}
-use Rattle.step.proofs.Rooms.{length-fit, every-drop}
+use Rattle.step.proofs.Rooms.{length-fit, every-fit, every-behind, padded-fit, zero-padded}
 use Rattle.network.specs.declared.NetworkState.{NetworkState}
 use Rattle.network.specs.declared.Offered.{Offered}
 use Rattle.network.specs.Network.{State, fresh, refusal, offer}
 use Rattle.network.specs.Sound.{callSound, sound}
-use Rattle.network.specs.Padded.{zeroChecker, isZeroChecker, pad, tidy, soundState, freshOf}
+use Rattle.network.specs.Padded.{zeroChecker, isZeroChecker, pad, view, tidy, soundState, freshOf}
 use Rattle.network.specs.Answers.{offerRefusal, offerOf}
 use Rattle.network.proofs.Living.{checkers-few}
-use Rattle.network.proofs.Views.{view-back}
+use Rattle.network.proofs.Views.{pad-view, view-back}
 use Rattle.network.proofs.Soundness.{fresh-sound, offer-sound}
 
 -- an answer and a state
 abbrev pub answered : Answer → NetworkState → Offered
 answered a w = record { answer = a; state = w }
 
--- Room for n elements, d behind what is there: a test on all of it, and on what is behind.
-module _ {A : Type 0} (p : A → Bool) (d : A) (z : p d ≡ true) where
-  every-fit : (n : ℕ) (l : List A) → every p l ≡ true → every p (fit n d l) ≡ true
-  unfolding every fit
-  every-fit zero l h = refl
-  every-fit (suc n) [] h = and-both z (every-fit n [] refl)
-  every-fit (suc n) (x ∷ l) h = let (a, b) = and-parts (p x) (every p l) h in and-both a (every-fit n l b)
-
-  every-behind : (n : ℕ) (l : List A) → every p (drop (length l) (fit n d l)) ≡ true
-  unfolding every fit
-  every-behind zero [] = refl
-  every-behind zero (x ∷ l) = refl
-  every-behind (suc n) [] = and-both z (every-fit n [] refl)
-  every-behind (suc n) (x ∷ l) = every-behind n l
-
--- numbers with zeros behind them
-padded-fit : (size n : ℕ) (l : List ℕ) → length l ≡ n → padded size n (fit size 0 l) ≡ true
-unfolding clear
-padded-fit size n l e = and-both (eq-eqb _ _ (length-fit size 0 l)) (subst (λ (m : ℕ). every (λ x. eqb x 0) (drop m (fit size 0 l)) ≡ true) e (every-behind (λ x. eqb x 0) 0 refl size l))
-
 module _ {s : List ℕ} (a : Accepted networkLayout s) (σ : State) (h : sound (networkOf s) σ ≡ true) where
-  zero-padded : (P : ℕ) → padded 8 P (zeroCall .kept) ≡ true
-  unfolding clear every
-  zero-padded P = and-both refl (every-drop (λ x. eqb x 0) P (replicate 8 0) refl)
-
   calls-padded : (P : ℕ) (l : List Calls.Call) → every (λ (c : Calls.Call). eqb (length (c .kept)) P) l ≡ true → every (λ (c : Call). padded 8 P (c .kept)) (map padCall l) ≡ true
   unfolding every
   calls-padded P [] k = refl
@@ -109,6 +85,15 @@ record Held (s : List ℕ) (w : NetworkState) : Type 0 where
   good : sound (networkOf s) state ≡ true
 
 module _ {s : List ℕ} (a : Accepted networkLayout s) where
+  -- An offered event leaves a sound state sound.
+  pub offer-keeps : (w : NetworkState) → soundState (networkOf s) w ≡ true → (e : Event) → soundState (networkOf s) (offerOf s w e .state) ≡ true
+  unfolding soundState
+  offer-keeps w h e =
+      let (o, (l, (t, g))) = simp and-iff at h in
+      let σ = view (networkOf s) w in
+      let next : offerOf s w e .state ≡ pad (offer (networkOf s) σ e .state) = ap (λ (x : NetworkState). offerOf s x e .state) (sym (pad-view (networkOf s) w h)) ∙ ap (λ (x : Offered). x .state) (offered-pad a σ g e) in
+      ap (soundState (networkOf s)) next ∙ sound-pad a (offer (networkOf s) σ e .state) (offer-sound a σ e g)
+
   held : {w : NetworkState} → Reached s w → Held s w
   unfolding freshOf
   held begun = record { state = fresh (networkOf s); padded = rw (reading-accepted networkLayout s a); good = fresh-sound a }

@@ -24,10 +24,10 @@ use Rattle.step.specs.declared.Call.{Call}
 use Rattle.step.specs.declared.Answer.the-variants as Answer
 use Rattle.step.specs.Lists.{keep, distinct}
 use Rattle.step.specs.Calls as Calls
-use Rattle.step.specs.Padding.{zeroCall, padCall, padded}
+use Rattle.step.specs.Padding.{zeroCall, padCall, padded, unpad}
 use Rattle.step.specs.Verdicts.{outcomeOf}
 use Rattle.step.specs.Runs.{Offered}
-use Rattle.step.specs.Walk.{unpad, eventOf}
+use Rattle.step.specs.Calls.{eventOf}
 use Rattle.step.proofs.Lists.{any-map}
 use Rattle.step.proofs.Runs.{offered-answer}
 use Rattle.step.proofs.Rooms.{take-fit, length-fit, map-same, every-take, outcome-verdict}

@@ -13,8 +13,7 @@ use Rattle.step.specs.declared.Call.{Call}
 use Rattle.step.specs.declared.Outcome.the-variants.{Open}
 use Rattle.step.specs.Calls.{mostCalls}
 use Rattle.step.specs.Verdicts.{outcomeOf, verdictIn}
-use Rattle.step.specs.Walk.{unpad}
-use Rattle.step.specs.Padding.{zeroCall, padCall, padded, isZeroCall}
+use Rattle.step.specs.Padding.{unpad, zeroCall, padCall, padded, isZeroCall}
 use Rattle.step.specs.Answers.{unlessTaken}
 use Rattle.network.specs.declared.Checker.{Checker}
 use Rattle.network.specs.declared.NetworkState.{NetworkState}

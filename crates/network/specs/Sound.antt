@@ -6,10 +6,9 @@ use lib.Dec.{eqb, leb, ltb}
 use lib.ListN.{length}
 use Rattle.sheet.specs.Table.{every}
 use Rattle.sheet.specs.Parts.{Network}
-use Rattle.step.specs.Lists.{any, keep, distinct}
+use Rattle.step.specs.Lists.{any, keep, distinct, placeOf}
 use Rattle.step.specs.Calls.{Call, mostCalls}
 use Rattle.step.specs.Verdicts.{verdictFits}
-use Rattle.step.specs.Walk.{placeOf}
 use Rattle.network.specs.declared.Checker.{Checker}
 use Rattle.network.specs.Network.{State, templateIn, boundTo, ofNumber}
 

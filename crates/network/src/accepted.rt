@@ -8,7 +8,7 @@ ghost use lib.ListN.{length};
 ghost use Rattle.sheet.specs.Bytes.{half};
 ghost use Rattle.sheet.specs.Decode.{networkOf};
 ghost use Rattle.sheet.specs.Reading.{reading, networkLayout};
-ghost use Rattle.step.specs.Walk.{eventOf};
+ghost use Rattle.step.specs.Calls.{eventOf};
 ghost use Rattle.engine.specs.Prepared.{networkPlan};
 ghost use Rattle.network.specs.Answers.{offerOf};
 ghost use Rattle.network.specs.Padded.{soundState};

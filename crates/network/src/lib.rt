@@ -2,7 +2,7 @@
 
 ghost use mathlib.Core.Path.{_≡_};
 ghost use Rattle.sheet.specs.Decode.{networkOf};
-ghost use Rattle.step.specs.Walk.{eventOf};
+ghost use Rattle.step.specs.Calls.{eventOf};
 ghost use Rattle.network.specs.Answers.{offerOf, runOf, entryValues};
 ghost use Rattle.network.specs.Network.{fresh};
 ghost use Rattle.network.specs.Padded.{zeroState, pad, freshOf};

@@ -6,7 +6,7 @@ use Prim.Native.Nat.{ℕ, suc, _+_, _≤_, _<_}
 use native.Mathlib.Numerals.{add-one}
 use native.Mathlib.Omega.{arith}
 use lib.ListN.{length, getD, set, take, drop, replicate, length-set, length-take, length-replicate, drop-of-length-le}
-use lib.Seq.{sets, set-out, drop-cons, getD-take}
+use lib.Seq.{sets, set-out, drop-cons}
 use Rattle.sheet.specs.Table.{fit}
 use Rattle.sheet.proofs.Indexing.{sets-fit}
 use Rattle.step.specs.Lists.{keep}
@@ -61,39 +61,8 @@ pub record Gathering {A : Type 0} (n : ℕ) (d : A) (p : A → Bool) (l out : Li
   pub fill : Filling n d (keep p l) out j (keep p (drop i l))
   pub low : j ≤ i
 
-module _ {A : Type 0} (n : ℕ) (d : A) (p : A → Bool) (l : List A) where
-  pub gather-start : Gathering n d p l (replicate n d) 0 0
-  gather-start = record { fill = filling-start n d (keep p l); low = omega arith }
-
-  module _ (out : List A) (i j : ℕ) (g : Gathering n d p l out i j) where
-    pub gather-end : length l ≤ i → out ≡ fit n d (keep p l)
-    gather-end h = filling-end n d (keep p l) out j (keep p (drop i l)) (g .fill) (keep-none-left p l i h)
-
-    module _ (e : A) (h : i < length l) where
-      pub gather-take : p (getD l i e) ≡ true → Gathering n d p l (set out j (getD l i e)) (i + 1) (j + 1)
-      gather-take t =
-          record {
-            fill = rw (add-one i) (filling-store n d (keep p l) out j (getD l i e) (keep p (drop (suc i) l)) (rw (keep-here p l i e h t) at (g .fill)));
-            low = omega (arith, g .low);
-          }
-
-      pub gather-leave : p (getD l i e) ≡ false → Gathering n d p l out (i + 1) j
-      gather-leave t = record { fill = rw (add-one i) (rw (keep-not-here p l i e h t) at (g .fill)); low = omega (arith, g .low) }
-
 -- The same among the first `opened` elements of an array.
 module _ {A : Type 0} (n : ℕ) (d : A) (p : A → Bool) (row : List A) (opened : ℕ) (out : List A) (i j : ℕ) (g : Gathering n d p (take opened row) out i j) where
-  pub first-end : opened ≤ i → out ≡ fit n d (keep p (take opened row))
-  first-end h = gather-end n d p (take opened row) out i j g (omega (arith, length-take opened row))
-
-  pub first-far : length row ≤ i → out ≡ fit n d (keep p (take opened row))
-  first-far h = gather-end n d p (take opened row) out i j g (omega (arith, length-take opened row))
-
   module _ (e : A) (h : i < opened) (k : i < length row) where
     there : i < length (take opened row)
     there = omega (arith, length-take opened row)
-
-    pub first-take : p (getD row i e) ≡ true → Gathering n d p (take opened row) (set out j (getD row i e)) (i + 1) (j + 1)
-    first-take t = rw (getD-take opened row i e h) at (gather-take n d p (take opened row) out i j g e there (rw (getD-take opened row i e h) t))
-
-    pub first-leave : p (getD row i e) ≡ false → Gathering n d p (take opened row) out (i + 1) j
-    first-leave t = gather-leave n d p (take opened row) out i j g e there (rw (getD-take opened row i e h) t)

@@ -9,15 +9,10 @@ use native.Mathlib.Numerals.{add-one}
 use native.Mathlib.Omega.{arith}
 use lib.ListN.{length, take, drop}
 use lib.Seq.{drop-drop}
-use Rattle.sheet.specs.declared.Header.{Header}
-use Rattle.sheet.specs.declared.Record.{Record}
-use Rattle.sheet.specs.Bytes.{byte, word}
-use Rattle.sheet.specs.Table.{records, table, fit}
-use Rattle.sheet.specs.Decode.{wordForm}
+use Rattle.sheet.specs.Bytes.{word}
+use Rattle.sheet.specs.Table.{records}
 use Rattle.sheet.specs.Log.{Event, recordSize, eventForm, logReading, recordsIn, eventsOf}
-use Rattle.sheet.specs.Answer.{headerOf, recordOf}
 use Rattle.sheet.proofs.Accepted.{unless-iff}
-use Rattle.sheet.proofs.Tables.{length-records}
 use Rattle.sheet.proofs.Tests.{and-iff, leb-iff, eqb-iff}
 use Rattle.step.specs.declared.Verdict.{Verdict}
 use Rattle.step.specs.declared.Outcome.{Outcome}
@@ -25,25 +20,9 @@ use Rattle.step.specs.declared.Outcome.the-variants.{Open, Judged}
 use Rattle.step.specs.declared.RunAnswer.{RunAnswer}
 use Rattle.step.specs.declared.RunAnswer.the-variants.{Violated, RefusedAt}
 use Rattle.step.specs.Verdicts.{outcomeOf, verdictIn}
-use Rattle.step.specs.Walk.{eventOf}
 use Rattle.step.specs.Runs.{Offered, Ran, unlessJudged, unlessRefusedAt, runFrom}
 use Rattle.step.specs.Answers.{ranAnswer}
-use Rattle.step.proofs.Rooms.{take-fitted, verdict-outcome}
-
--- A record of the log, by the header that is lent: how many bytes it has, and the event that it is, its first bytes and P words behind them.
-module _ (s : List ℕ) (h : Header) (e : h ≡ headerOf s) where
-  values-in : h .programs ≡ byte s 5
-  values-in = ap (λ (x : Header). x .programs) e
-
-  pub record-size : (n : ℕ) → n ≡ h .programs → 4 + 4 * n ≡ recordSize (byte s 5)
-  record-size n f = ap recordSize (f ∙ values-in)
-
-  pub event-read : h .programs ≤ 8 → (log : List ℕ) (at : ℕ) (r : Record) → r ≡ recordOf (drop at log) → (n : ℕ) → n ≡ h .programs → (words : List ℕ) → words ≡ fit 8 0 (table wordForm (h .programs) log (at + 4))
-      → eventOf r (take n words) ≡ eventForm (byte s 5) .value (drop at log)
-  event-read few log at r er n en words ew =
-      let P = h .programs in
-      let values = take-fitted 0 8 P (table wordForm P log (at + 4)) (length-records wordForm P (drop (at + 4) log)) few in
-      rw (er, en, ew, values, ← values-in, drop-drop)
+use Rattle.step.proofs.Rooms.{verdict-outcome}
 
 -- What reading a log leaves: it says its length, and its records fill it.
 pub log-length : (P : ℕ) (log : List ℕ) → logReading P log ≡ 0 → word log 0 ≡ length log
@@ -113,10 +92,6 @@ module _ {S W : Type 0} {E : Engine S W} (works : Works E) (P : ℕ) (log : List
       }
 
   module _ (w : W) (i at end : ℕ) (g : Following E P log w i at end) where
-    -- the state that is held is that of a sound one
-    pub follow-ready : (Q : W → Type 0) → ((σ : S) → E .sound σ ≡ true → Q (E .pad σ)) → Q w
-    follow-ready Q h = subst Q (sym (g .padded)) (h (g .σ) (g .sound))
-
     pub follow-seen : E .view w ≡ g .σ
     follow-seen = ap (E .view) (g .padded) ∙ works .seen (g .σ) (g .sound)
 

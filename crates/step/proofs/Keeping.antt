@@ -1,21 +1,21 @@
 -- Laws of lists whose elements are kept by a test: their images, their numbers, their places, the least of them. Assumes nothing.
-use mathlib.Core.Path.{_≡_, refl, sym, ap, subst, _∙_}
+use mathlib.Core.Path.{_≡_, refl, sym, ap, _∙_}
 use mathlib.Core.Logic.{inl, inr}
-use mathlib.Core.Bool.{Bool, true, false, not, cond, _&&_, false≢true}
+use mathlib.Core.Bool.{Bool, true, false, not, cond, false≢true, _&&_}
 use mathlib.Core.Option.{Option, none, some}
 use mathlib.Core.List.{List, [], _∷_, _++_, map}
 use Prim.Native.Nat.{ℕ, zero, suc, _+_, min, _≤_, _<_}
 use native.Mathlib.Numerals.{add-one}
 use native.Mathlib.Omega.{arith}
-use borrow.Author.Tests.{lt-ltb, eqb-true, eqb-false, ne-eqb}
+use borrow.Author.Tests.{lt-ltb, eqb-false, ne-eqb}
 use lib.Dec.{eqb}
 use lib.ListN.{length, getD, take, drop, length-map, length-take}
 use lib.Seq.{getD-take}
 use Rattle.sheet.specs.Table.{every, fit}
 use Rattle.sheet.proofs.Tables.{and-parts, and-both}
 use Rattle.sheet.proofs.Tests.{and-iff, not-iff}
-use Rattle.step.specs.Lists.{first, keep, any, lesser, least, distinct}
-use Rattle.step.specs.Walk.{placeOf, leastOf, numberIn}
+use Rattle.step.specs.Lists.{first, keep, any, lesser, least, distinct, placeOf}
+use Rattle.step.specs.Walk.{leastOf, numberIn}
 use Rattle.step.proofs.Lists.{Among, any-map, least-some}
 use Rattle.step.proofs.Filling.{keep-none-left, keep-here, keep-not-here}
 use Rattle.step.proofs.Turns.{distinct-snoc}
@@ -115,12 +115,6 @@ module _ {A B : Type 0} (f : A → B) (d : B) (size : ℕ) (l : List A) (few : l
   pub row-left : (q : B → Bool) → fit size d (keep q (take (length l) (fit size d (map f l)))) ≡ fit size d (map f (keep (λ x. q (f x)) l))
   row-left q = ap (λ (r : List B). fit size d (keep q r)) row-out ∙ ap (fit size d) (keep-map q f l)
 
-  pub row-place : (q : B → Bool) → placeOf q (take (length l) (fit size d (map f l))) ≡ placeOf (λ x. q (f x)) l
-  row-place q = ap (placeOf q) row-out ∙ place-map q f l
-
-  pub row-at : (c : B) (e : A) (i : ℕ) → i < length l → getD (fit size d (map f l)) i c ≡ f (getD l i e)
-  row-at c e i h = sym (getD-take (length l) (fit size d (map f l)) i c h) ∙ ap (λ (r : List B). getD r i c) row-out ∙ image-at f c e l i h
-
 -- Of a list: the first that passes a test stands at its place; a weaker test is passed too; tests that agree on its elements keep the same.
 module _ {A : Type 0} (p : A → Bool) where
   pub first-place : (d : A) (l : List A) → any p l ≡ true → first p l ≡ some (getD l (placeOf p l) d)
@@ -169,19 +163,6 @@ module _ {A : Type 0} (f : A → ℕ) (n : ℕ) where
       go true e h k = absurd (false≢true (sym h))
       go false e h k = rw (ne-eqb (f x) n (λ q. eqb-false n (f x) e (sym q))) (ap (λ (r : List A). x ∷ r) (k h))
 
-  pub one-fewer : (l : List A) → distinct (map f l) ≡ true → any (λ a. eqb (f a) n) l ≡ true → suc (length (keep (λ a. not (eqb (f a) n)) l)) ≡ length l
-  unfolding any keep distinct
-  one-fewer [] d h = absurd (false≢true h)
-  one-fewer (x ∷ l) d h =
-      let (i, j) = simp (and-iff, not-iff) at d in
-      go (eqb (f x) n) refl h i (one-fewer l j)
-    where
-      go : (b : Bool) → eqb (f x) n ≡ b → cond b true (any (λ a. eqb (f a) n) l) ≡ true → any (eqb (f x)) (map f l) ≡ false
-          → (any (λ a. eqb (f a) n) l ≡ true → suc (length (keep (λ a. not (eqb (f a) n)) l)) ≡ length l)
-          → suc (length (cond (not b) (x ∷ keep (λ a. not (eqb (f a) n)) l) (keep (λ a. not (eqb (f a) n)) l))) ≡ suc (length l)
-      go true e h i k = ap (λ (r : List A). suc (length r)) (all-stay l (subst (λ m. any (eqb m) (map f l) ≡ false) (eqb-true (f x) n e) i))
-      go false e h i k = ap suc (k h)
-
 -- The least of some bytes, by a number past them.
 abbrev pub under : ℕ → Option ℕ → ℕ
 under n none = n
@@ -214,9 +195,6 @@ module _ {A : Type 0} (f : A → ℕ) (p : A → Bool) (row : List A) (count low
 
   pub least-end : (k : ℕ) → count ≡ k → count ≤ i → low ≡ leastOf top (map f (keep p (take k row)))
   least-end k e h = ended k e (omega (arith, length-take count row))
-
-  pub least-far : (k : ℕ) → count ≡ k → length row ≤ i → low ≡ leastOf top (map f (keep p (take k row)))
-  least-far k e h = ended k e (omega (arith, length-take count row))
 
   module _ (d : A) (h : i < count) (k : i < length row) where
     there : i < length (take count row)

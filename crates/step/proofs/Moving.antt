@@ -1,36 +1,28 @@
 -- What a transition leaves: a state below Q, as many variables as before, and a sound verdict; and how the operations take one. Assumes nothing.
-use mathlib.Core.Path.{_≡_, refl, sym, ap, subst, _∙_}
+use mathlib.Core.Path.{_≡_, refl, sym, subst, _∙_}
 use mathlib.Core.Bool.{Bool, true, false, cond}
 use mathlib.Core.Option.{Option, none, some}
-use mathlib.Core.List.{List, [], _∷_, _++_, map}
-use Prim.Native.Nat.{ℕ, _≤_, _<_}
-use native.Mathlib.Omega.{arith}
+use mathlib.Core.List.{List, [], _∷_, map}
+use Prim.Native.Nat.{ℕ, _<_}
 use borrow.Author.Tests.{eq-eqb}
 use lib.Dec.{ltb}
-use lib.ListN.{length, getD, take, drop, take-append-drop, length-set, length-map, List·getD-map}
+use lib.ListN.{length, getD, length-set, length-map, List·getD-map}
 use Rattle.condition.specs.Tree.{Assignment}
 use Rattle.condition.specs.Parse.{parseAction}
 use Rattle.condition.specs.Meaning.{Environment, performed, assigned}
 use Rattle.sheet.specs.declared.Transition.{Transition}
-use Rattle.sheet.specs.Table.{fit}
 use Rattle.sheet.specs.Parts.{Common, Paired}
-use Rattle.sheet.specs.Decode.{transitionOf, commonOf}
-use Rattle.sheet.specs.Reading.{Layout, isBad, lentIn, transitionsOf, sheetLayout, networkLayout}
+use Rattle.sheet.specs.Decode.{commonOf}
+use Rattle.sheet.specs.Reading.{isBad, lentIn, transitionsOf, sheetLayout, networkLayout}
 use Rattle.sheet.specs.Log.{Event}
 use Rattle.sheet.proofs.Accepted.{Accepted, GoodTransition, sheet-transition, network-transition}
-use Rattle.step.specs.declared.Found.{Found}
-use Rattle.step.specs.declared.Found.the-variants.{At, Nothing}
-use Rattle.step.specs.declared.Moved.{Moved}
 use Rattle.step.specs.Lists.{first}
 use Rattle.step.specs.Meets.{acted, performedBy}
 use Rattle.step.specs.Moves.{Configuration, seen, enabled, after, moved}
 use Rattle.step.specs.Verdicts.{causeOf, placed, verdictFor, ifThere, verdictFits}
-use Rattle.step.specs.Walk.{movedAt, movedTo}
 use Rattle.step.proofs.Lists.{Among, first-passes}
 use Rattle.step.proofs.Keeping.{among-at}
-use Rattle.step.proofs.Rooms.{take-fitted, behind-fit}
-use Rattle.sheet.proofs.Placed.{actionPlaces}
-use Rattle.step.proofs.Bridge.{foundAt, noTransition, noPaired, action-acts}
+use Rattle.step.proofs.Bridge.{noTransition, noPaired}
 
 -- Every transition of accepted bytes is good: of a sheet, and of a network.
 pub sheet-good : {s : List ℕ} → Accepted sheetLayout s → (t : Transition) → Among t (transitionsOf sheetLayout s) → GoodTransition (commonOf s) t
@@ -71,39 +63,6 @@ module _ (C : Common) (ts : List Transition) where
       go : (o : Option Transition) → length (after C k e o .variables) ≡ length (k .variables)
       go none = refl
       go (some t) = length-acted (parseAction (lentIn C) (getD (C .actions) (t .action) [])) (seen e k)
-
--- the state and the variables without what stands behind them, and what a transition makes of them with it
-abbrev pub held : Common → ℕ → List ℕ → Configuration
-held C main variables = record { main = main; variables = take (C .monitors) variables }
-
-abbrev padded : Common → List ℕ → Configuration → Event → Option Transition → Moved
-padded C variables k e o = record { main = after C k e o .main; variables = after C k e o .variables ++ drop (C .monitors) variables }
-
--- The action and the state of the transition that was found are those of the definition.
-module _ {T R : Type 0} {F : Layout T R} {s : List ℕ} (a : Accepted F s) (few : F .actions ≤ 161) (ts : List Transition) (good : (t : Transition) → Among t ts → t .action < length (commonOf s .actions))
-    (main : ℕ) (variables : List ℕ) (e : Event) (p : length (e .values) ≡ commonOf s .programs) (m : commonOf s .monitors ≤ length variables) where
-  pub taken-moves : (f : Found) → foundAt s f ≡ first (enabled (commonOf s) (held (commonOf s) main variables) e) ts
-      → movedAt s (actionPlaces s) f (e .values) main variables (commonOf s .monitors) ≡ movedTo (commonOf s) ts main variables e
-  unfolding moved
-  taken-moves Nothing h =
-      ap (λ l. record { main = main; variables = l }) (sym (take-append-drop (commonOf s .monitors) variables)) ∙ ap (padded (commonOf s) variables (held (commonOf s) main variables) e) h
-  taken-moves (At q) h =
-      let t = transitionOf (drop q s) in
-      let b = good t (first-passes (enabled (commonOf s) (held (commonOf s) main variables) e) ts t (sym h) .0) in
-      ap (λ l. record { main = t .to; variables = l }) (action-acts a few (t .action) b (e .values) variables p m) ∙ ap (padded (commonOf s) variables (held (commonOf s) main variables) e) h
-
--- The variables after an event, with their room behind them.
-pub moved-fits : (C : Common) (ts : List Transition) → C .monitors ≤ 4 → (k : Configuration) (e : Event) → length (k .variables) ≡ C .monitors
-    → movedTo C ts (k .main) (fit 4 0 (k .variables)) e ≡ record { main = moved C ts k e .main; variables = fit 4 0 (moved C ts k e .variables) }
-moved-fits C ts few k e v =
-    let row = fit 4 0 (k .variables) in
-    let to : List ℕ → Configuration = λ l. moved C ts (record { main = k .main; variables = l }) e in
-    let after = to (k .variables) .variables in
-    let long = moved-variables C ts k e in
-    let behind = subst (λ (j : ℕ). after ++ drop j row ≡ fit 4 0 after) v (behind-fit 0 4 (k .variables) after (sym long) (omega arith)) in
-    let first : List ℕ → Moved = λ l. record { main = to l .main; variables = to l .variables ++ drop (C .monitors) row } in
-    let then : List ℕ → Moved = λ l. record { main = to (k .variables) .main; variables = l } in
-    ap first (take-fitted 0 4 (C .monitors) (k .variables) v few) ∙ ap then behind
 
 -- The verdict that an event brings, from a triple that exists.
 pub verdict-fits : (bad n main position : ℕ) (t : Option ℕ) → ifThere t (λ i. ltb i n) ≡ true → verdictFits bad n main position (verdictFor bad position main t) ≡ true

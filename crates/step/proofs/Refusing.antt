@@ -3,33 +3,21 @@ use mathlib.Core.Path.{_≡_, refl, sym, ap, _∙_}
 use mathlib.Core.Logic.{_↔_}
 use mathlib.Core.Bool.{Bool, true, false, not, cond, _&&_, false≢true}
 use mathlib.Core.List.{List, map}
-use Prim.Native.Nat.{ℕ, _+_, min, _≤_, _<_}
+use Prim.Native.Nat.{ℕ, min, _≤_, _<_}
 use native.Mathlib.Omega.{arith}
-use borrow.Author.Tests.{lt-ltb, le-ltb, ltb-true, ltb-false, le-leb, lt-leb, leb-true, leb-false, eqb-false, eq-eqb, not-false}
-use lib.Dec.{leb, ltb, eqb}
+use borrow.Author.Tests.{le-leb, lt-leb, leb-true, leb-false, eqb-false, eq-eqb, not-false}
+use lib.Dec.{leb, eqb}
 use lib.ListN.{length, take, length-take, length-map}
-use Rattle.sheet.specs.declared.Record.{Record}
 use Rattle.sheet.specs.Parts.{Common}
 use Rattle.sheet.specs.Log.{Event}
 use Rattle.sheet.proofs.Tables.{and-parts}
 use Rattle.sheet.proofs.Tests.{and-iff, leb-iff, eqb-iff}
 use Rattle.step.specs.declared.Call.{Call}
-use Rattle.step.specs.Lists.{any}
 use Rattle.step.specs.Calls as Calls
 use Rattle.step.specs.Calls.{isEntry, isExit, openNumber, openFor, mostCalls, lastPosition, refusalsFor, refusals, lowest}
-use Rattle.step.specs.Walk.{placeOf, unpad, eventOf, refusalBy}
-use Rattle.step.proofs.Lists.{any-map}
-use Rattle.step.proofs.Searching.{any-place}
+use Rattle.step.specs.Padding.{unpad}
+use Rattle.step.specs.Walk.{refusalBy}
 use Rattle.step.proofs.Keeping.{any-weaker}
-
--- below the lesser of two is below both
-below-min : (k m n : ℕ) → (ltb k m && ltb k n) ≡ ltb k (min m n)
-below-min k m n = go (ltb k m) refl (ltb k n) refl
-  where
-    go : (a : Bool) → ltb k m ≡ a → (b : Bool) → ltb k n ≡ b → (a && b) ≡ ltb k (min m n)
-    go true e true f = sym (lt-ltb k (min m n) (omega (arith, ltb-true k m e, ltb-true k n f)))
-    go true e false f = sym (le-ltb k (min m n) (omega (arith, ltb-false k n f)))
-    go false e b f = sym (le-ltb k (min m n) (omega (arith, ltb-false k m e)))
 
 full-min : (m : ℕ) → leb 16 m ≡ leb 16 (min m 16)
 full-min m = go (leb 16 m) refl
@@ -42,14 +30,8 @@ module _ (programs : ℕ) (calls : List Call) (opened : ℕ) (long : length call
   shown : length (take opened calls) ≡ min opened 16
   shown = length-take opened calls ∙ ap (min opened) long
 
-  open-there : (place : ℕ) → place ≡ placeOf (λ c. eqb (c .number) number) (take opened calls) → (ltb place opened && ltb place 16) ≡ openNumber number (map (unpad programs) (take opened calls))
-  open-there place e = below-min place opened 16 ∙ sym (any-map (λ c. eqb (c .number) number) (unpad programs) (take opened calls) ∙ any-place (λ c. eqb (c .number) number) (take opened calls) ∙ rw (shown, e))
-
   full-there : leb 16 opened ≡ leb 16 (length (map (unpad programs) (take opened calls)))
   full-there = full-min opened ∙ sym (ap (leb 16) (length-map (take opened calls) (unpad programs) ∙ shown))
-
-  for-there : any (λ c. eqb (c .number) number && eqb (c .unit) unit) (take opened calls) ≡ any (λ c. eqb (c .number) number && eqb (c .unit) unit) (map (unpad programs) (take opened calls))
-  for-there = sym (any-map (λ c. eqb (c .number) number && eqb (c .unit) unit) (unpad programs) (take opened calls))
 
 -- What is asked of the open calls gives the refusals.
 pub refusal-asked :
@@ -57,14 +39,6 @@ pub refusal-asked :
     again ≡ openNumber (e .number) calls → full ≡ leb mostCalls (length calls) → known ≡ openFor e calls → refusalBy units programs judged position again full known e ≡ lowest (refusalsFor units programs judged position calls e)
 unfolding lowest
 refusal-asked units programs judged position calls e again full known ea ef ek = rw (ea, ef, ek)
-
-pub refusal-found :
-    (units programs : ℕ) (judged : Bool) (position : ℕ) (calls : List Call) (opened : ℕ) (r : Record) (values : List ℕ) (place : ℕ) (known : Bool) →
-    length calls ≡ 16 → place ≡ placeOf (λ c. eqb (c .number) (r .number)) (take opened calls) → known ≡ any (λ c. eqb (c .number) (r .number) && eqb (c .unit) (r .unit)) (take opened calls) →
-    refusalBy units programs judged position (ltb place opened && ltb place 16) (leb 16 opened) known (eventOf r values) ≡ lowest (refusalsFor units programs judged position (map (unpad programs) (take opened calls)) (eventOf r values))
-refusal-found units programs judged position calls opened r values place known long ep ek =
-    refusal-asked units programs judged position (map (unpad programs) (take opened calls)) (eventOf r values) _ _ _ (open-there programs calls opened long (r .number) (r .unit) place ep) (full-there programs calls opened long (r .number) (r .unit))
-    (ek ∙ for-there programs calls opened long (r .number) (r .unit))
 
 -- An event that is refused for no reason, with or without a verdict, at a position, with some calls open.
 pub record Free (C : Common) (judged : Bool) (position : ℕ) (calls : List Calls.Call) (e : Event) : Type 0 where
@@ -92,22 +66,8 @@ free C judged position calls e h =
     let (k, (u, v)) = simp (not-false-iff, and-iff, leb-iff, eqb-iff) at b in
     record { unjudged = a; kind = k; unit = u; values = v; notLast = c; notOpen = d; room = f; isOpen = g }
 
--- A position that is not the last has one to come.
-below-last : (n : ℕ) → n < 4294967296 → eqb n 4294967295 ≡ false → n + 1 < 4294967296
-below-last n h e = go (ltb n 4294967295) refl
-  where
-    go : (b : Bool) → ltb n 4294967295 ≡ b → n + 1 < 4294967296
-    go true q = omega (arith, ltb-true n 4294967295 q)
-    go false q =
-        let k = ltb-false n 4294967295 q in
-        let same : n ≡ 4294967295 = omega arith in
-        absurd (eqb-false n 4294967295 e same)
-
 -- So there is one to come after an event that is not refused; at an entry there is room for its call, and at an exit its call is open.
 module _ {C : Common} {judged : Bool} {position : ℕ} {calls : List Calls.Call} {e : Event} (f : Free C judged position calls e) where
-  pub position-fits : position < 4294967296 → position + 1 < 4294967296
-  position-fits h = below-last position h (f .notLast)
-
   pub entry-room : e .kind ≡ 0 → length calls < 16
   entry-room h = leb-false 16 (length calls) (rw (eq-eqb (e .kind) 0 h) at (f .room))
 

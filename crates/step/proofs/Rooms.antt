@@ -1,14 +1,14 @@
 -- Arrays with room behind what is there: what goes in comes out again, and what stands there goes in again. Assumes nothing.
-use mathlib.Core.Path.{_≡_, refl, sym, ap, ap₂, _∙_}
+use mathlib.Core.Path.{_≡_, refl, sym, ap, ap₂, subst, _∙_}
 use mathlib.Core.Bool.{Bool, true, false, cond, _&&_}
 use mathlib.Core.Option.{Option, none, some}
 use mathlib.Core.List.{List, [], _∷_, _++_, map, append-nil, map-append, map-map}
 use Prim.Native.Nat.{ℕ, zero, suc, _+_, _-_, _≤_, _<_}
 use native.Mathlib.Numerals.{add-one}
 use native.Mathlib.Omega.{arith}
-use borrow.Author.Tests.{ltb-true, ltb-false}
+use borrow.Author.Tests.{ltb-true, ltb-false, eq-eqb}
 use lib.Dec.{eqb, ltb}
-use lib.ListN.{length, getD, set, take, drop, drop-of-length-le, length-append, length-map}
+use lib.ListN.{length, getD, set, take, drop, drop-of-length-le, length-append, length-map, replicate}
 use lib.Seq.{sets, append-snoc, take-suc, take-all, length-take-le, drop-cons, drop-nil}
 use Rattle.sheet.specs.Table.{every, fit}
 use Rattle.sheet.proofs.Tables.{and-parts, and-both, and-assoc}
@@ -19,8 +19,7 @@ use Rattle.step.specs.declared.Outcome.{Outcome}
 use Rattle.step.specs.declared.Outcome.the-variants.{Open, Judged}
 use Rattle.step.specs.Calls as Calls
 use Rattle.step.specs.Verdicts.{outcomeOf, verdictIn}
-use Rattle.step.specs.Walk.{unpad}
-use Rattle.step.specs.Padding.{zeroCall, padCall, clear, padded, isZeroCall}
+use Rattle.step.specs.Padding.{unpad, zeroCall, padCall, clear, padded, isZeroCall}
 
 -- Room for n elements: what fits comes out again, and what stands in an array goes in again where the rest is d.
 module _ {A : Type 0} (d : A) where
@@ -139,6 +138,30 @@ unfolding clear
 fit-padded size n l e c =
     let long : length l ≡ size = simp eqb-iff at e in
     rw (← long) (fit-take 0 (λ x. eqb x 0) is-zero n l c)
+
+-- Room for n elements, d behind what is there: a test on all of it, and on what is behind.
+module _ {A : Type 0} (p : A → Bool) (d : A) (z : p d ≡ true) where
+  pub every-fit : (n : ℕ) (l : List A) → every p l ≡ true → every p (fit n d l) ≡ true
+  unfolding every fit
+  every-fit zero l h = refl
+  every-fit (suc n) [] h = and-both z (every-fit n [] refl)
+  every-fit (suc n) (x ∷ l) h = let (a, b) = and-parts (p x) (every p l) h in and-both a (every-fit n l b)
+
+  pub every-behind : (n : ℕ) (l : List A) → every p (drop (length l) (fit n d l)) ≡ true
+  unfolding every fit
+  every-behind zero [] = refl
+  every-behind zero (x ∷ l) = refl
+  every-behind (suc n) [] = and-both z (every-fit n [] refl)
+  every-behind (suc n) (x ∷ l) = every-behind n l
+
+-- numbers with zeros behind them
+pub padded-fit : (size n : ℕ) (l : List ℕ) → length l ≡ n → padded size n (fit size 0 l) ≡ true
+unfolding clear
+padded-fit size n l e = and-both (eq-eqb _ _ (length-fit size 0 l)) (subst (λ (m : ℕ). every (λ x. eqb x 0) (drop m (fit size 0 l)) ≡ true) e (every-behind (λ x. eqb x 0) 0 refl size l))
+
+pub zero-padded : (P : ℕ) → padded 8 P (zeroCall .kept) ≡ true
+unfolding clear every
+zero-padded P = and-both refl (every-drop (λ x. eqb x 0) P (replicate 8 0) refl)
 
 -- the same of one value after another
 abbrev zeros : ℕ → ℕ → List ℕ → Bool

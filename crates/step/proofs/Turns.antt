@@ -10,8 +10,7 @@ use lib.Dec.{eqb, ltb}
 use lib.ListN.{length, getD, take, drop, drop-of-length-le, take-append-drop, length-take}
 use lib.Seq.{drop-cons, take-suc, take-all, take-take, getD-take, length-take-le}
 use Rattle.sheet.specs.Table.{every}
-use Rattle.step.specs.Lists.{any, distinct}
-use Rattle.step.specs.Walk.{placeOf}
+use Rattle.step.specs.Lists.{any, distinct, placeOf}
 use Rattle.step.specs.Padding.{clear, padded}
 use Rattle.step.proofs.Lists.{any-map}
 use Rattle.step.proofs.Searching.{any-place, place-low}

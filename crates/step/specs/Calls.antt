@@ -5,6 +5,7 @@ use Prim.Native.Nat.{ℕ}
 use lib.Dec.{leb, ltb, eqb}
 use lib.ListN.{length}
 use Rattle.sheet.specs.Parts.{Common}
+use Rattle.sheet.specs.declared.Record.{Record}
 use Rattle.sheet.specs.Log.{Event}
 use Rattle.step.specs.Lists.{any}
 
@@ -57,3 +58,7 @@ refusals C judged position calls e = refusalsFor (C .units) (C .programs) judged
 unfoldable pub lowest : List Refusal → ℕ
 lowest [] = 0
 lowest (r ∷ l) = cond (r .applies) (r .number) (lowest l)
+
+-- an event as its record and its values
+abbrev pub eventOf : Record → List ℕ → Event
+eventOf r values = record { kind = r .kind; unit = r .unit; number = r .number; values = values }

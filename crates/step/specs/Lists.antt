@@ -40,3 +40,8 @@ unfoldable pub beside : {A B C : Type 0} → (A → B → C) → List A → List
 beside f [] m = []
 beside f (x ∷ l) [] = []
 beside f (x ∷ l) (y ∷ m) = f x y ∷ beside f l m
+
+-- how many elements stand before the first that passes a test
+unfoldable pub placeOf : {A : Type 0} → (A → Bool) → List A → ℕ
+placeOf p [] = 0
+placeOf p (x ∷ l) = cond (p x) 0 (suc (placeOf p l))

@@ -3,7 +3,7 @@ use mathlib.Core.Bool.{Bool, _&&_}
 use mathlib.Core.List.{List}
 use Prim.Native.Nat.{ℕ}
 use lib.Dec.{eqb}
-use lib.ListN.{length, drop, replicate}
+use lib.ListN.{length, take, drop, replicate}
 use Rattle.sheet.specs.Table.{every, fit}
 use Rattle.step.specs.declared.Call.{Call}
 use Rattle.step.specs.Calls as Calls
@@ -13,6 +13,10 @@ zeroCall = record { number = 0; unit = 0; kept = replicate 8 0 }
 
 abbrev pub padCall : Calls.Call → Call
 padCall c = record { number = c .number; unit = c .unit; kept = fit 8 0 (c .kept) }
+
+-- a call without its padding
+abbrev pub unpad : ℕ → Call → Calls.Call
+unpad programs c = record { number = c .number; unit = c .unit; kept = take programs (c .kept) }
 
 -- zeros from a place on
 unfoldable pub clear : ℕ → List ℕ → Bool

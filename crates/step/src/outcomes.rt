@@ -2,7 +2,6 @@
 
 ghost use mathlib.Core.Path.{_≡_};
 ghost use mathlib.Core.Bool.{_&&_};
-ghost use Prim.Native.Nat.{min};
 ghost use lib.Dec.{eqb, ltb};
 ghost use Rattle.step.specs.Verdicts.{ifThere, stateIn, tripleIn, verdictFor, verdictFits, isJudged, outcomeOf, verdictIn};
 ghost use Rattle.step.specs.Walk.{numberIn};
@@ -70,12 +69,4 @@ pub fn is_judged(outcome: Outcome) -> bool
         Outcome::Open => false,
         Outcome::Judged(_) => true,
     }
-}
-
-// The lesser of a number so far and a triple's.
-pub fn lesser(low: u16, n: u8) -> u16
-    ensures { λ r. ⌜ r ≡ min low n ⌝ }
-{
-    let m = n as u16;
-    if m < low { m } else { low }
 }

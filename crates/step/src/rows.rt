@@ -1,14 +1,13 @@
 // Rows of calls: the first `opened` of sixteen places, with zeros behind them.
 
 ghost use mathlib.Core.Path.{_≡_};
-ghost use mathlib.Core.Bool.{true, not, cond, _&&_};
+ghost use mathlib.Core.Bool.{true, cond, _&&_};
 ghost use mathlib.Core.List.{map};
 ghost use Prim.Native.Nat.{_≤_};
 ghost use lib.Dec.{eqb};
-ghost use lib.ListN.{length, set, take, drop};
+ghost use lib.ListN.{length, take, drop};
 ghost use Rattle.sheet.specs.Table.{every, fit};
-ghost use Rattle.step.specs.Lists.{keep, distinct};
-ghost use Rattle.step.specs.Walk.{placeOf};
+ghost use Rattle.step.specs.Lists.{distinct, placeOf};
 ghost use Rattle.step.specs.Padding.{zeroCall, clear, padded, isZeroCall};
 use crate::Call;
 
@@ -21,39 +20,6 @@ pub fn no_call() -> Call
         unit: 0,
         kept: [0; 8],
     }
-}
-
-// The row with a call at a place; a place past the end stores nothing.
-pub fn with_call(calls: [Call; 16], at: usize, call: Call) -> [Call; 16]
-    ensures { λ r. ⌜ r ≡ set calls at call ⌝ }
-{
-    let mut out = calls;
-    if at < 16 {
-        out[at] = call;
-    }
-    out
-}
-
-// The first `opened` calls but for those of a number, closed up.
-pub fn without_call(calls: [Call; 16], opened: usize, number: u16) -> [Call; 16]
-    ensures { λ r. ⌜ r ≡ fit 16 zeroCall (keep (λ c. not (eqb (c .number) number)) (take opened calls)) ⌝ }
-{
-    let mut out = [no_call(); 16];
-    let mut i = 0;
-    let mut j = 0;
-    while i < opened {
-        if i < 16 {
-            let c = calls[i];
-            if c.number == number {} else {
-                out[j] = c;
-                j += 1;
-            }
-        } else {
-            return out;
-        }
-        i += 1;
-    }
-    out
 }
 
 // Up to eight values, zeros behind them.

@@ -7,7 +7,7 @@ use native.Mathlib.Omega.{arith}
 use lib.Dec.{eqb}
 use lib.ListN.{length, take, drop}
 use Rattle.step.specs.declared.Call.{Call}
-use Rattle.step.specs.Walk.{placeOf}
+use Rattle.step.specs.Lists.{placeOf}
 use Rattle.network.specs.declared.Checker.{Checker}
 use Rattle.network.specs.Sound.{neverFalls}
 use Rattle.network.proofs.Counting.{falls-end, falls-far, falls-next, falls-fails}
