@@ -1,9 +1,8 @@
 -- States as the engine's words, and back.
 use mathlib.Core.Bool.{Bool, cond}
 use mathlib.Core.List.{List, [], _∷_, _++_, map}
-use Prim.Native.Nat.{ℕ, zero, suc, _+_}
+use Prim.Native.Nat.{ℕ, zero, suc, _/_, _%_}
 use lib.ListN.{length, take, drop}
-use lib.Seq.{sets}
 use Rattle.sheet.specs.Table.{fit}
 use Rattle.step.specs.declared.Call.{Call}
 use Rattle.step.specs.Padding.{zeroCall}
@@ -13,7 +12,6 @@ use Rattle.engine.specs.Packed.{wordsOf, callIn, armsIn}
 use Rattle.engine.specs.Walk.{Words, entries}
 use Rattle.network.specs.declared.Checker.{Checker}
 use Rattle.network.specs.declared.NetworkState.{NetworkState}
-use Rattle.network.specs.declared.pack.Living.{Living}
 use Rattle.network.specs.Network.{boundTo}
 use Rattle.network.specs.Grouped.{checker}
 use Rattle.network.specs.Padded.{zeroChecker}
@@ -21,6 +19,10 @@ use Rattle.network.specs.Padded.{zeroChecker}
 -- what stands beside the calls, checkers and variables
 abbrev pub runningOf : NetworkState → Running
 runningOf w = record { main = w .main; opened = w .opened; position = w .position; outcome = w .outcome }
+
+-- the checker of a word: its template is the last byte, the number of its call the two bytes before it
+abbrev pub checkerIn : ℕ → Checker
+checkerIn w = checker (w / 256 % 65536) (w % 256)
 
 -- the first elements of a list, at most so many, up to one that does not pass a test
 unfoldable pub front : {A : Type 0} → (A → Bool) → ℕ → List A → List A
@@ -51,10 +53,6 @@ checkersFor c a = map (checker (c .number)) (take (a .count) (a .numbers))
 unfoldable pub checkersIn : List (List ℕ) → List Checker
 checkersIn [] = []
 checkersIn (w ∷ ws) = checkersFor (callIn 0 w) (armsIn w) ++ checkersIn ws
-
--- a row with more checkers behind those that live
-abbrev pub withMore : Living → List Checker → Living
-withMore r l = record { count = r .count + length l; checkers = sets (r .checkers) (r .count) l }
 
 -- the state of words, with so many values a call and so many variables
 unfoldable pub unpacked : ℕ → ℕ → Words → NetworkState

@@ -6,21 +6,19 @@ ghost use mathlib.Core.List.{map};
 ghost use Prim.Native.Nat.{_+_, _≤_};
 ghost use lib.Dec.{ltb};
 ghost use lib.ListN.{length, take, drop};
-ghost use Rattle.sheet.specs.Table.{every};
+ghost use lib.Seq.{sets};
+ghost use Rattle.sheet.specs.Table.{every, fit};
 ghost use Rattle.engine.specs.Walk.{entries, words};
 ghost use Rattle.network.specs.Grouped.{checker};
-ghost use Rattle.network.specs.Packed.{runningOf, armsOf, ownOf, callWords, withMore, unpacked};
+ghost use Rattle.network.specs.Padded.{zeroChecker};
+ghost use Rattle.network.specs.Packed.{runningOf, armsOf, ownOf, callWords, checkerIn, unpacked};
 use crate::Checker;
 use crate::NetworkState;
+use crate::sound::long;
 use crate::sound::wide;
+use crate::sound::word;
 use engine::Running;
 use engine::pack::Arms;
-
-// A row of checkers, and how many of them live.
-pub struct Living {
-    pub count: usize,
-    pub checkers: [Checker; 64],
-}
 
 // What stands beside the calls, checkers and variables.
 pub(crate) fn running(state: NetworkState) -> Running
@@ -45,12 +43,13 @@ pub(crate) fn row(state: NetworkState) -> [u32; 256]
     let checkers = state.checkers;
     let opened = wide(state.opened);
     let living = wide(state.living);
+    let words = words_of(checkers, living);
     let mut row = [0u32; 256];
     let mut i = 0;
     let mut from = 0;
     while i < opened {
         let call = calls[i];
-        let arms = bound_from(checkers, from, living, call.number);
+        let arms = bound_from(&words[..], from, living, call.number);
         engine::pack::put(&mut row, i, call, arms);
         from += wide(arms.count);
         i += 1;
@@ -58,11 +57,43 @@ pub(crate) fn row(state: NetworkState) -> [u32; 256]
     row
 }
 
+// The first `living` checkers, each in a word.
+fn words_of(checkers: [Checker; 64], living: usize) -> [u32; 64]
+    requires { ⌜ living ≤ 64 ⌝ }
+    ensures { λ r. ⌜ (take living (map checkerIn r) ≡ take living checkers) × (length r ≡ 64) ⌝ }
+{
+    let mut out = [0u32; 64];
+    let mut i = 0;
+    while i < living {
+        let c = checkers[i];
+        out[i] = word_of(c.number, c.template);
+        i += 1;
+    }
+    out
+}
+
+// The word of a checker.
+fn word_of(number: u16, template: u8) -> u32
+    ensures { λ r. ⌜ checkerIn r ≡ checker number template ⌝ }
+{
+    256 * long(number) + word(template)
+}
+
+// The checker of a word.
+fn checker_in(w: u32) -> Checker
+    ensures { λ r. ⌜ r ≡ checkerIn w ⌝ }
+{
+    Checker {
+        number: (w / 256 % 65536) as u16,
+        template: (w % 256) as u8,
+    }
+}
+
 // The templates of the checkers from a place on that are bound to a call, up to the first that is not:
 // at most four.
-fn bound_from(checkers: [Checker; 64], from: usize, living: usize, number: u16) -> Arms
-    requires { ⌜ (from ≤ 64) × (living ≤ 64) ⌝ }
-    ensures { λ r. ⌜ r ≡ armsOf (ownOf number (drop from (take living checkers))) ⌝ }
+fn bound_from(words: &[u32], from: usize, living: usize, number: u16) -> Arms
+    requires { ⌜ (from ≤ 64) × (living ≤ 64) × (living ≤ length (now words)) ⌝ }
+    ensures { λ r. ⌜ r ≡ armsOf (ownOf number (drop from (take living (map checkerIn (now (words .entry)))))) ⌝ }
 {
     let mut numbers = [0u8; 4];
     let mut n = 0;
@@ -74,7 +105,7 @@ fn bound_from(checkers: [Checker; 64], from: usize, living: usize, number: u16) 
                 numbers,
             };
         }
-        let c = checkers[at];
+        let c = checker_in(words[at]);
         if c.number == number {} else {
             return Arms {
                 count: n as u8,
@@ -101,54 +132,58 @@ pub(crate) fn unpack(
     let opened = wide(run.opened);
     let w = step::rows::eight(condition::front(&variables[..], monitors));
     let mut calls = [step::rows::no_call(); 16];
-    let mut living = Living {
-        count: 0,
-        checkers: [Checker {
-            number: 0,
-            template: 0,
-        }; 64],
-    };
+    let mut words = [0u32; 64];
+    let mut living = 0;
     let mut i = 0;
     while i < opened {
         let call = engine::pack::call_at(row, i, programs);
         let arms = engine::pack::arms_at(row, i);
-        living = append(living, call.number, arms);
+        living = append(&mut words, living, call.number, arms);
         calls[i] = call;
         i += 1;
     }
-    let checkers = living.checkers;
+    let checkers = checkers_of(&words[..], living);
     let outcome = run.outcome;
     NetworkState {
         main: run.main,
         variables: [w[0], w[1], w[2], w[3]],
         opened: run.opened,
         calls,
-        living: living.count as u8,
+        living: living as u8,
         checkers,
         position: run.position,
         outcome,
     }
 }
 
-// A checker of a call for each armed template, behind those of a row.
-fn append(row: Living, number: u16, arms: Arms) -> Living
-    requires { ⌜ (row .count ≤ 60) × (arms .count ≤ 4) ⌝ }
-    ensures { λ r. ⌜ r ≡ withMore row (map (checker number) (take (arms .count) (arms .numbers))) ⌝ }
+// The word of a checker of a call for each armed template, behind the words of a row.
+fn append(words: &mut [u32; 64], living: usize, number: u16, arms: Arms) -> usize
+    requires { ⌜ (living ≤ 60) × (arms .count ≤ 4) ⌝ }
+    ensures { λ r. ⌜ (map checkerIn (now (words .exit)) ≡ sets (map checkerIn (now (words .entry))) living (map (checker number) (take (arms .count) (arms .numbers)))) × (r ≡ living + length (take (arms .count) (arms .numbers))) ⌝ }
 {
-    let living = row.count;
     let count = wide(arms.count);
     let numbers = arms.numbers;
-    let mut checkers = row.checkers;
     let mut i = 0;
     while i < count {
-        checkers[living + i] = Checker {
-            number,
-            template: numbers[i],
-        };
+        words[living + i] = word_of(number, numbers[i]);
         i += 1;
     }
-    Living {
-        count: living + count,
-        checkers,
+    living + count
+}
+
+// The checkers of the first `living` words.
+fn checkers_of(words: &[u32], living: usize) -> [Checker; 64]
+    requires { ⌜ (living ≤ 64) × (living ≤ length (now words)) ⌝ }
+    ensures { λ r. ⌜ r ≡ fit 64 zeroChecker (take living (map checkerIn (now (words .entry)))) ⌝ }
+{
+    let mut out = [Checker {
+        number: 0,
+        template: 0,
+    }; 64];
+    let mut i = 0;
+    while i < living {
+        out[i] = checker_in(words[i]);
+        i += 1;
     }
+    out
 }

@@ -198,13 +198,13 @@ pub(crate) fn wide(x: u8) -> usize
     x as usize
 }
 
-fn word(x: u8) -> u32
+pub(crate) fn word(x: u8) -> u32
     ensures { λ r. ⌜ (r ≡ x) × (r < 256) ⌝ }
 {
     x as u32
 }
 
-fn long(x: u16) -> u32
+pub(crate) fn long(x: u16) -> u32
     ensures { λ r. ⌜ (r ≡ x) × (r < 65536) ⌝ }
 {
     x as u32
