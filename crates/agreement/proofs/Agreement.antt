@@ -26,8 +26,8 @@ use Rattle.monitor.specs.Monitor as Monitor
 use Rattle.monitor.specs.Monitor.{Armed}
 use Rattle.monitor.specs.Demand.{begun}
 use Rattle.monitor.specs.Answers as OnSheet
-use Rattle.monitor.proofs.Broken.{Plain}
-use Rattle.monitor.proofs.Acceptance.{accepted-plain}
+use Rattle.monitor.proofs.Demand2.Broken.{Plain}
+use Rattle.monitor.proofs.Demand2.Acceptance.{accepted-plain}
 use Rattle.network.specs.declared.NetworkState.{NetworkState}
 use Rattle.network.specs.declared.Offered.{Offered}
 use Rattle.network.specs.Network as Net
@@ -36,11 +36,11 @@ use Rattle.network.specs.Padded.{pad, view, freshOf}
 use Rattle.network.specs.Grouped.{rowOf, ungrouped}
 use Rattle.network.specs.Answers as OnNetwork
 use Rattle.network.specs.Answers.{offerOf}
-use Rattle.network.proofs.Apart.{Apart}
-use Rattle.network.proofs.Living.{checkers-few}
-use Rattle.network.proofs.Views.{view-back}
-use Rattle.network.proofs.Soundness.{fresh-sound, offer-sound}
-use Rattle.network.proofs.Lasting.{answered, offered-pad}
+use Rattle.network.proofs.ByMachine.Apart.{Apart}
+use Rattle.network.proofs.States.Living.{checkers-few}
+use Rattle.network.proofs.States.Views.{view-back}
+use Rattle.network.proofs.States.Soundness.{fresh-sound, offer-sound}
+use Rattle.network.proofs.States.Lasting.{answered, offered-pad}
 use Rattle.agreement.specs.Demand.{Followed, follow, defined, offeredTo, Shown, shownIn, shownBySheet, armedRow, shownByNetwork, Demand3, Exactly, ExactlyDue, SameRun, AsDefined}
 use Rattle.agreement.specs.Realises.{Realises}
 use Rattle.agreement.proofs.Translation.Written.{network-accepted, network-translated}

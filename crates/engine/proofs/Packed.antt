@@ -27,8 +27,8 @@ use Rattle.engine.specs.Packed.{wordsOf, putAt, callIn, armsIn, callAt, 
 use Rattle.engine.specs.Machine.{Machine, Armed, State, ofNumber, entered, exited, refusal, offer}
 use Rattle.engine.specs.Walk.{entries, Words}
 use Rattle.engine.specs.Showing.{armedOf, shownBy, Carries}
-use Rattle.engine.proofs.Entries.{length-entries, take-sets, drop-sets, drop-take, entries-same, entries-more}
-use Rattle.engine.proofs.Rowing.{reads, reads-all, reads-some}
+use Rattle.engine.proofs.InWords.Entries.{length-entries, take-sets, drop-sets, drop-take, entries-same, entries-more}
+use Rattle.engine.proofs.InWords.Rowing.{reads, reads-all, reads-some}
 
 -- a call's words stored one by one
 module _ (row : List ℕ) (i : ℕ) (c : Call) (a : Arms) where

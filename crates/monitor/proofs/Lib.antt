@@ -1,20 +1,5 @@
 -- The monitor against the published definition, and document 01's sample runs.
-pub mod Traces
-pub mod Calls
-pub mod Broken
-pub mod Found
-pub mod Published
-pub mod Acceptance
-pub mod Exclusive
-pub mod Rows
-pub mod Starting
-pub mod Triples
-pub mod Arming
-pub mod Soundness
-pub mod Views
-pub mod Answering
-pub mod Testing
-pub mod Checks
-pub mod Machined
-pub mod Packed
-pub mod Lasting
+pub mod Demand2
+pub mod States
+pub mod SoundTests
+pub mod Offers

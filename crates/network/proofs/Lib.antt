@@ -1,21 +1,5 @@
 -- The engine on a network: which states are sound, what they show, what an event makes of them, and what the functions' proofs cite.
-pub mod Living
-pub mod Views
-pub mod Ordering
-pub mod Created
-pub mod Soundness
-pub mod Templates
-pub mod Checks
-pub mod Lasting
-pub mod Counting
-pub mod Starting
-pub mod Holding
-pub mod Entries
-pub mod Answering
-pub mod Bound
-pub mod Grouping
-pub mod Apart
-pub mod ByCalls
-pub mod Runs
-pub mod Packed
-pub mod Packing
+pub mod States
+pub mod SoundTests
+pub mod Offers
+pub mod ByMachine

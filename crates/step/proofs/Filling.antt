@@ -8,7 +8,7 @@ use native.Mathlib.Omega.{arith}
 use lib.ListN.{length, getD, set, take, drop, replicate, length-set, length-take, length-replicate, drop-of-length-le}
 use lib.Seq.{sets, set-out, drop-cons}
 use Rattle.sheet.specs.Table.{fit}
-use Rattle.sheet.proofs.Indexing.{sets-fit}
+use Rattle.sheet.proofs.Readers.Indexing.{sets-fit}
 use Rattle.step.specs.Lists.{keep}
 
 -- What is left, stored from j on, gives the whole.

@@ -19,7 +19,7 @@ use Rattle.sheet.proofs.Limits.{sheet-narrow}
 use Rattle.sheet.proofs.Tables.{length-records}
 use Rattle.translation.specs.Translate.{pairsOf, copied, back, joined, added, extended, templateOf, translate}
 use Rattle.translation.proofs.Writing.{written-append}
-use Rattle.translation.proofs.Records.{texts-written}
+use Rattle.translation.proofs.Cards.Records.{texts-written}
 use Rattle.translation.specs.Walk.{textsAt, backWith, addedAt, copiedBytes, templatesAt, frameOf, tablesAt, headerAt}
 
 -- The transitions that are added, by the numbers of the added condition and action.

@@ -1,21 +1,8 @@
 -- What translating a sheet gives.
 pub mod Rows
 pub mod Writing
-pub mod Copying
-pub mod Counting
+pub mod Sheets
 pub mod Networks
 pub mod Images
-pub mod Filling
-pub mod Tabling
-pub mod Pairing
-pub mod Adding
-pub mod Putting
 pub mod Cut
-pub mod Records
-pub mod Reaching
-pub mod Joining
-pub mod Listing
-pub mod CardTabling
-pub mod CardFilling
-pub mod Widening
-pub mod Guarding
+pub mod Cards

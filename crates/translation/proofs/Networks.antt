@@ -27,7 +27,7 @@ use Rattle.sheet.proofs.Accepted.{Accepted, Bounds, bounds, condition-lengths, 
 use Rattle.sheet.proofs.Encoding.{decode-encode, accepted-encode}
 use Rattle.sheet.proofs.Limits.{sheet-narrow, encode-longest}
 use Rattle.translation.specs.Translate.{pairsOf, copied, back, joined, added, extended, templateOf, translate}
-use Rattle.translation.proofs.Counting.{added-length, joined-every, pairs-every, pairs-few}
+use Rattle.translation.proofs.Sheets.Counting.{added-length, joined-every, pairs-every, pairs-few}
 
 abbrev noTransition : Transition
 noTransition = transitionForm .value []

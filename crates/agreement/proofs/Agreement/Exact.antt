@@ -23,15 +23,15 @@ use Rattle.monitor.specs.Monitor.{Armed, ofNumber, initial}
 use Rattle.monitor.specs.Sound.{rising}
 use Rattle.monitor.specs.Published as Published
 use Rattle.monitor.specs.Demand.{Taken, more}
-use Rattle.monitor.proofs.Traces.{opening, Opened}
-use Rattle.monitor.proofs.Calls.{held-opened, opened-held}
-use Rattle.monitor.proofs.Broken.{Plain, armed-arms, arms-armed}
-use Rattle.monitor.proofs.Arming.{armed-rising}
+use Rattle.monitor.proofs.Demand2.Traces.{opening, Opened}
+use Rattle.monitor.proofs.Demand2.Calls.{held-opened, opened-held}
+use Rattle.monitor.proofs.Demand2.Broken.{Plain, armed-arms, arms-armed}
+use Rattle.monitor.proofs.States.Arming.{armed-rising}
 use Rattle.network.specs.declared.Checker.{Checker}
 use Rattle.network.specs.Network.{boundTo}
 use Rattle.network.specs.Grouped.{checker, rowOf}
-use Rattle.network.proofs.Created.{none-kept}
-use Rattle.network.proofs.Bound.{bound-none, bound-first}
+use Rattle.network.proofs.States.Created.{none-kept}
+use Rattle.network.proofs.ByMachine.Bound.{bound-none, bound-first}
 use Rattle.agreement.specs.Demand.{Living, armedRow, living, follow, many, Due, takenOf, whenTaken}
 use Rattle.agreement.proofs.Agreement.Row.{row-own}
 

@@ -16,19 +16,19 @@ use Rattle.engine.specs.Machine as Machine
 use Rattle.engine.specs.Machine.{State}
 use Rattle.engine.specs.Machines.{ofSheet, ofNetwork}
 use Rattle.engine.specs.Runs as Runs
-use Rattle.engine.proofs.Alike.{Alike, fresh-alike, offer-alike, run-alike}
+use Rattle.engine.proofs.OnMachines.Alike.{Alike, fresh-alike, offer-alike, run-alike}
 use Rattle.monitor.specs.Monitor as Monitor
 use Rattle.monitor.specs.Monitor.{arms, armedBy}
 use Rattle.monitor.specs.Answers as OnSheet
-use Rattle.monitor.proofs.Machined as Machined
+use Rattle.monitor.proofs.Offers.Machined as Machined
 use Rattle.network.specs.declared.Checker.{Checker}
 use Rattle.network.specs.Network as Net
 use Rattle.network.specs.Network.{pairsIn, created}
 use Rattle.network.specs.Grouped.{checker, rowOf, ungrouped}
 use Rattle.network.specs.Answers as OnNetwork
-use Rattle.network.proofs.Apart.{Apart}
-use Rattle.network.proofs.ByCalls as ByCalls
-use Rattle.network.proofs.Runs.{run-grouped}
+use Rattle.network.proofs.ByMachine.Apart.{Apart}
+use Rattle.network.proofs.ByMachine.ByCalls as ByCalls
+use Rattle.network.proofs.ByMachine.Runs.{run-grouped}
 use Rattle.agreement.specs.Realises.{Realises}
 
 module _ {S : Sheet} {N : Network} (r : Realises S N) where

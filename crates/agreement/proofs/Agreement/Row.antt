@@ -15,7 +15,7 @@ use Rattle.monitor.specs.Monitor as Monitor
 use Rattle.monitor.specs.Monitor.{Armed}
 use Rattle.network.specs.Network.{ofNumber}
 use Rattle.network.specs.Grouped.{checker, rowOf, ungrouped}
-use Rattle.network.proofs.Created.{none-among}
+use Rattle.network.proofs.States.Created.{none-among}
 use Rattle.agreement.specs.Demand.{Living, opened, armedRow, keptBy, living, shownIn, shownBySheet}
 
 -- Each call is the first of its number.

@@ -23,8 +23,8 @@ use Rattle.sheet.proofs.Tables.{and-parts, and-both, every-append, every-map, e
 use Rattle.sheet.proofs.Accepted.{condition-formed}
 use Rattle.step.proofs.Keeping.{every-among, among-every}
 use Rattle.translation.proofs.Networks.{every-two}
-use Rattle.translation.proofs.Joining.{length-joined}
-use Rattle.translation.proofs.Guarding.{length-guarded}
+use Rattle.translation.proofs.Cards.Joining.{length-joined}
+use Rattle.translation.proofs.Cards.Guarding.{length-guarded}
 use Rattle.translation.specs.Card.{joinedText, joinedFrom, guardedBy, guardedFrom, joinedConditions, withConditions, separated}
 use Rattle.agreement.proofs.Card.Joined.{Says, says-parses, joins}
 

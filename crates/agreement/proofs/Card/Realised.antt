@@ -23,7 +23,7 @@ use Rattle.step.specs.Meets.{meets, acted}
 use Rattle.step.specs.Moves.{Configuration, seen, enabled, after, moved}
 use Rattle.step.proofs.Lists.{Among, headOf, first-keep, first-passes}
 use Rattle.step.proofs.Keeping.{keep-map, keep-same, every-among}
-use Rattle.engine.proofs.Carried.{image, first-image}
+use Rattle.engine.proofs.MachineCarried.Carried.{image, first-image}
 use Rattle.network.specs.declared.Checker.{Checker}
 use Rattle.network.specs.Network.{templateIn, pairsIn, created}
 use Rattle.translation.specs.Translate.{translate, extended}

@@ -21,7 +21,7 @@ use Rattle.step.specs.Calls.{isEntry}
 use Rattle.step.proofs.Bridge.{noTransition, first-same}
 use Rattle.step.proofs.Keeping.{keep-same}
 use Rattle.step.proofs.Lists.{none-some, first-passes}
-use Rattle.engine.proofs.Carried.{image, first-image}
+use Rattle.engine.proofs.MachineCarried.Carried.{image, first-image}
 use Rattle.translation.specs.Translate.{pairsFrom, pairsOf, copied, back, joined, added, extended, translate}
 use Rattle.monitor.specs.Monitor.{arms, armedBy}
 use Rattle.network.specs.declared.Checker.{Checker}

@@ -4,8 +4,8 @@ use Prim.Native.Nat.{_<_}
 use borrow.Author.Needs.{needs}
 use native.Mathlib.Omega.{arith}
 use Rattle.engine.specs.Walk.{words}
-use Rattle.engine.proofs.Refused.{allowed-early, allowed-entry, allowed-exit}
-use Rattle.engine.proofs.Answering.{told, offer-crowded, offer-refused, offer-entry, offer-exit}
+use Rattle.engine.proofs.InWords.Refused.{allowed-early, allowed-entry, allowed-exit}
+use Rattle.engine.proofs.InWords.Answering.{told, offer-crowded, offer-refused, offer-entry, offer-exit}
 use Rattle.engine.proofs.advance.Statement.{statement}
 use Rattle.engine.proofs.advance.Tie as tie
 

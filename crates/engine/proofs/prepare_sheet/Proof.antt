@@ -3,7 +3,7 @@ use borrow.Author.Needs.{needs}
 use Rattle.sheet.specs.Reading.{reading, sheetLayout}
 use Rattle.sheet.proofs.Answers.{answer-accepted}
 use Rattle.engine.specs.Prepared.{sheetInto}
-use Rattle.engine.proofs.Preparing.{put-accepted, kept-refused}
+use Rattle.engine.proofs.Plans.Preparing.{put-accepted, kept-refused}
 use Rattle.engine.proofs.prepare_sheet.Statement.{statement}
 use Rattle.engine.proofs.prepare_sheet.Tie as tie
 

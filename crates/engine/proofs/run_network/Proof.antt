@@ -3,8 +3,8 @@ use borrow.Author.Needs.{needs}
 use Rattle.sheet.specs.Reading.{networkLayout}
 use Rattle.sheet.proofs.Answers.{answer-accepted}
 use Rattle.engine.specs.Prepared.{networkInto}
-use Rattle.engine.proofs.Preparing.{planned}
-use Rattle.engine.proofs.Ran.{few-programs, network-unread, network-ran}
+use Rattle.engine.proofs.Plans.Preparing.{planned}
+use Rattle.engine.proofs.OverLogs.Ran.{few-programs, network-unread, network-ran}
 use Rattle.engine.proofs.run_network.Statement.{statement}
 use Rattle.engine.proofs.run_network.Tie as tie
 

@@ -3,8 +3,8 @@ use borrow.Author.Needs.{needs}
 use Rattle.sheet.specs.Reading.{sheetLayout}
 use Rattle.sheet.proofs.Answers.{answer-accepted}
 use Rattle.engine.specs.Prepared.{sheetInto}
-use Rattle.engine.proofs.Preparing.{planned}
-use Rattle.engine.proofs.Ran.{few-programs, sheet-unread, sheet-ran}
+use Rattle.engine.proofs.Plans.Preparing.{planned}
+use Rattle.engine.proofs.OverLogs.Ran.{few-programs, sheet-unread, sheet-ran}
 use Rattle.engine.proofs.run_sheet.Statement.{statement}
 use Rattle.engine.proofs.run_sheet.Tie as tie
 

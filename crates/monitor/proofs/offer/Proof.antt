@@ -2,8 +2,8 @@
 use borrow.Author.Needs.{needs}
 use Rattle.sheet.proofs.Answers.{answer-accepted}
 use Rattle.engine.specs.Prepared.{sheetInto}
-use Rattle.engine.proofs.Preparing.{planned}
-use Rattle.monitor.proofs.Answering.{offer-unread}
+use Rattle.engine.proofs.Plans.Preparing.{planned}
+use Rattle.monitor.proofs.Offers.Answering.{offer-unread}
 use Rattle.monitor.proofs.offer.Statement.{statement}
 use Rattle.monitor.proofs.offer.Tie as tie
 

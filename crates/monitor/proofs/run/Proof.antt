@@ -1,7 +1,7 @@
 -- `run` meets its contract. Assumes nothing.
 use mathlib.Core.Path.{_∙_}
 use borrow.Author.Needs.{needs}
-use Rattle.monitor.proofs.Machined.{answer-same}
+use Rattle.monitor.proofs.Offers.Machined.{answer-same}
 use Rattle.monitor.proofs.run.Statement.{statement}
 use Rattle.monitor.proofs.run.Tie as tie
 

@@ -2,8 +2,8 @@
 use borrow.Author.Needs.{needs}
 use Rattle.sheet.proofs.Answers.{answer-accepted}
 use Rattle.engine.specs.Prepared.{networkInto}
-use Rattle.engine.proofs.Preparing.{planned}
-use Rattle.network.proofs.Answering.{offer-unread}
+use Rattle.engine.proofs.Plans.Preparing.{planned}
+use Rattle.network.proofs.Offers.Answering.{offer-unread}
 use Rattle.network.proofs.offer.Statement.{statement}
 use Rattle.network.proofs.offer.Tie as tie
 

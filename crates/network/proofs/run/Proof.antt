@@ -1,7 +1,7 @@
 -- `run` meets its contract. Assumes nothing.
 use mathlib.Core.Path.{_∙_}
 use borrow.Author.Needs.{needs}
-use Rattle.network.proofs.Runs.{run-same}
+use Rattle.network.proofs.ByMachine.Runs.{run-same}
 use Rattle.network.proofs.run.Statement.{statement}
 use Rattle.network.proofs.run.Tie as tie
 

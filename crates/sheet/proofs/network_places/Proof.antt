@@ -1,6 +1,6 @@
 -- `network_places` meets its contract. Assumes nothing.
 use Rattle.sheet.specs.Reading.{networkLayout}
-use Rattle.sheet.proofs.Logs.{places-found}
+use Rattle.sheet.proofs.Readers.Logs.{places-found}
 use borrow.Author.Needs.{needs}
 use Rattle.sheet.proofs.network_places.Statement.{statement}
 use Rattle.sheet.proofs.network_places.Tie as tie

@@ -1,6 +1,6 @@
 -- `sheet_places` meets its contract. Assumes nothing.
 use Rattle.sheet.specs.Reading.{sheetLayout}
-use Rattle.sheet.proofs.Logs.{places-found}
+use Rattle.sheet.proofs.Readers.Logs.{places-found}
 use borrow.Author.Needs.{needs}
 use Rattle.sheet.proofs.sheet_places.Statement.{statement}
 use Rattle.sheet.proofs.sheet_places.Tie as tie

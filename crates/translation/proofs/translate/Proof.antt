@@ -1,7 +1,7 @@
 -- `translate` meets its contract. Assumes nothing.
 use borrow.Author.Needs.{needs}
 use Rattle.sheet.proofs.Answers.{answer-accepted}
-use Rattle.translation.proofs.Filling.{unread}
+use Rattle.translation.proofs.Sheets.Filling.{unread}
 use Rattle.translation.proofs.translate.Statement.{statement}
 use Rattle.translation.proofs.translate.Tie as tie
 

@@ -1,7 +1,7 @@
 -- `translate_card` meets its contract. Assumes nothing.
 use borrow.Author.Needs.{needs}
 use Rattle.sheet.proofs.Answers.{answer-accepted}
-use Rattle.translation.proofs.CardFilling.{card-unread}
+use Rattle.translation.proofs.Cards.CardFilling.{card-unread}
 use Rattle.translation.proofs.translate_card.Statement.{statement}
 use Rattle.translation.proofs.translate_card.Tie as tie
 

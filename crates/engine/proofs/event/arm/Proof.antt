@@ -5,8 +5,8 @@ use Prim.Native.Nat.{_-_}
 use borrow.Author.Needs.{needs}
 use Rattle.condition.specs.Meaning.{environment}
 use Rattle.engine.specs.Walk.{armedIn}
-use Rattle.engine.proofs.Chains.{armed-past, armed-here, armed-behind}
-use Rattle.engine.proofs.Arming.{Storing, storing-start, storing-store, storing-past, storing-leave, storing-end}
+use Rattle.engine.proofs.InWords.Chains.{armed-past, armed-here, armed-behind}
+use Rattle.engine.proofs.InWords.Arming.{Storing, storing-start, storing-store, storing-past, storing-leave, storing-end}
 use Rattle.engine.proofs.event.arm.Statement.{statement}
 use Rattle.engine.proofs.event.arm.Tie as tie
 

@@ -1,7 +1,7 @@
 -- `event::entered` meets its contract. Assumes nothing.
 use mathlib.Core.Path.{refl}
 use borrow.Author.Needs.{needs}
-use Rattle.engine.proofs.Answering.{entered-there}
+use Rattle.engine.proofs.InWords.Answering.{entered-there}
 use Rattle.engine.proofs.event.entered.Statement.{statement}
 use Rattle.engine.proofs.event.entered.Tie as tie
 

@@ -1,7 +1,7 @@
 -- `event::exited` meets its contract. Assumes nothing.
 use borrow.Author.Needs.{needs}
 use native.Mathlib.Omega.{arith}
-use Rattle.engine.proofs.Answering.{exited-there}
+use Rattle.engine.proofs.InWords.Answering.{exited-there}
 use Rattle.engine.proofs.event.exited.Statement.{statement}
 use Rattle.engine.proofs.event.exited.Tie as tie
 

@@ -6,7 +6,7 @@ use borrow.Author.Needs.{needs}
 use native.Mathlib.Omega.{arith}
 use Rattle.condition.specs.Meaning.{environment}
 use Rattle.engine.specs.Walk.{foundIn}
-use Rattle.engine.proofs.Chains.{found-past, found-here, found-behind}
+use Rattle.engine.proofs.InWords.Chains.{found-past, found-here, found-behind}
 use Rattle.engine.proofs.event.find.Statement.{statement}
 use Rattle.engine.proofs.event.find.Tie as tie
 

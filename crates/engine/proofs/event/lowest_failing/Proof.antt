@@ -5,7 +5,7 @@ use Prim.Native.Nat.{_-_, _+_, _≤_}
 use borrow.Author.Needs.{needs}
 use native.Mathlib.Omega.{arith}
 use lib.ListN.{length}
-use Rattle.engine.proofs.Failing.{Judging, judging-start, judging-end, judging-fails, judging-holds}
+use Rattle.engine.proofs.InWords.Failing.{Judging, judging-start, judging-end, judging-fails, judging-holds}
 use Rattle.engine.proofs.event.lowest_failing.Statement.{statement}
 use Rattle.engine.proofs.event.lowest_failing.Tie as tie
 

@@ -2,7 +2,7 @@
 use mathlib.Core.Path.{_∙_}
 use mathlib.Core.Logic.{⊎-elim}
 use borrow.Author.Needs.{needs}
-use Rattle.engine.proofs.Taking.{stays, leads, no-action, action-taken}
+use Rattle.engine.proofs.InWords.Taking.{stays, leads, no-action, action-taken}
 use Rattle.engine.proofs.event.moved.Statement.{statement}
 use Rattle.engine.proofs.event.moved.Tie as tie
 

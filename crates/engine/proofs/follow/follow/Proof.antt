@@ -6,7 +6,7 @@ use borrow.Author.Needs.{needs}
 use Rattle.sheet.specs.Log.{recordSize}
 use Rattle.step.proofs.Following.{log-length, follow-start, follow-end, follow-room}
 use Rattle.engine.specs.Walk.{words}
-use Rattle.engine.proofs.Followed.{works, Held, started-words, clear-start, ends-refused, ends-violated, goes-on}
+use Rattle.engine.proofs.OverLogs.Followed.{works, Held, started-words, clear-start, ends-refused, ends-violated, goes-on}
 use Rattle.engine.proofs.follow.follow.Statement.{statement}
 use Rattle.engine.proofs.follow.follow.Tie as tie
 

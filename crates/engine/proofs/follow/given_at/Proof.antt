@@ -1,6 +1,6 @@
 -- `follow::given_at` meets its contract. Assumes nothing.
 use borrow.Author.Needs.{needs}
-use Rattle.engine.proofs.Followed.{given-read}
+use Rattle.engine.proofs.OverLogs.Followed.{given-read}
 use Rattle.engine.proofs.follow.given_at.Statement.{statement}
 use Rattle.engine.proofs.follow.given_at.Tie as tie
 

@@ -1,6 +1,6 @@
 -- `follow::initial` meets its contract. Assumes nothing.
 use borrow.Author.Needs.{needs}
-use Rattle.engine.proofs.Followed.{variables-started}
+use Rattle.engine.proofs.OverLogs.Followed.{variables-started}
 use Rattle.engine.proofs.follow.initial.Statement.{statement}
 use Rattle.engine.proofs.follow.initial.Tie as tie
 

@@ -2,7 +2,7 @@
 use Prim.Native.Nat.{_-_}
 use borrow.Author.Needs.{needs}
 use native.Mathlib.Omega.{arith}
-use Rattle.engine.proofs.Followed.{Filling, filling-start, filling-next, filling-end}
+use Rattle.engine.proofs.OverLogs.Followed.{Filling, filling-start, filling-next, filling-end}
 use Rattle.engine.proofs.follow.read_values.Statement.{statement}
 use Rattle.engine.proofs.follow.read_values.Tie as tie
 

@@ -1,6 +1,6 @@
 -- `follow::started` meets its contract. Assumes nothing.
 use borrow.Author.Needs.{needs}
-use Rattle.engine.proofs.Followed.{run-started}
+use Rattle.engine.proofs.OverLogs.Followed.{run-started}
 use Rattle.engine.proofs.follow.started.Statement.{statement}
 use Rattle.engine.proofs.follow.started.Tie as tie
 

@@ -1,6 +1,6 @@
 -- `plan::action` meets its contract. Assumes nothing.
 use borrow.Author.Needs.{needs}
-use Rattle.engine.proofs.Storing.{action-nothing, action-something}
+use Rattle.engine.proofs.Plans.Storing.{action-nothing, action-something}
 use Rattle.engine.proofs.plan.action.Statement.{statement}
 use Rattle.engine.proofs.plan.action.Tie as tie
 

@@ -1,6 +1,6 @@
 -- `plan::heads` meets its contract. Assumes nothing.
 use borrow.Author.Needs.{needs}
-use Rattle.engine.proofs.Storing.{head-words}
+use Rattle.engine.proofs.Plans.Storing.{head-words}
 use Rattle.engine.proofs.plan.heads.Statement.{statement}
 use Rattle.engine.proofs.plan.heads.Tie as tie
 

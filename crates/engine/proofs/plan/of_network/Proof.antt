@@ -1,7 +1,7 @@
 -- `plan::of_network` meets its contract. Assumes nothing.
 use native.Mathlib.Omega.{arith}
 use borrow.Author.Needs.{needs}
-use Rattle.engine.proofs.Preparing.{network-near, network-made}
+use Rattle.engine.proofs.Plans.Preparing.{network-near, network-made}
 use Rattle.engine.proofs.plan.of_network.Statement.{statement}
 use Rattle.engine.proofs.plan.of_network.Tie as tie
 

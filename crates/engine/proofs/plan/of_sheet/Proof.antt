@@ -1,7 +1,7 @@
 -- `plan::of_sheet` meets its contract. Assumes nothing.
 use native.Mathlib.Omega.{arith}
 use borrow.Author.Needs.{needs}
-use Rattle.engine.proofs.Preparing.{sheet-near, sheet-made}
+use Rattle.engine.proofs.Plans.Preparing.{sheet-near, sheet-made}
 use Rattle.engine.proofs.plan.of_sheet.Statement.{statement}
 use Rattle.engine.proofs.plan.of_sheet.Tie as tie
 

@@ -2,7 +2,7 @@
 use mathlib.Core.Path.{ap, _∙_}
 use Prim.Native.Nat.{ℕ, min}
 use borrow.Author.Needs.{needs}
-use Rattle.engine.proofs.Linking.{Pairing, pairing-start, pairing-next, pairing-end}
+use Rattle.engine.proofs.Plans.Linking.{Pairing, pairing-start, pairing-next, pairing-end}
 use Rattle.engine.proofs.plan.pairs.Statement.{statement}
 use Rattle.engine.proofs.plan.pairs.Tie as tie
 

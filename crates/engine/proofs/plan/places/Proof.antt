@@ -2,7 +2,7 @@
 use Prim.Native.Nat.{_-_}
 use native.Mathlib.Omega.{arith}
 use borrow.Author.Needs.{needs}
-use Rattle.engine.proofs.Linking.{Placing, placing-start, placing-near, placing-next, placing-end}
+use Rattle.engine.proofs.Plans.Linking.{Placing, placing-start, placing-near, placing-next, placing-end}
 use Rattle.engine.proofs.plan.places.Statement.{statement}
 use Rattle.engine.proofs.plan.places.Tie as tie
 

@@ -1,7 +1,7 @@
 -- `plan::posts` meets its contract. Assumes nothing.
 use Prim.Native.Nat.{_-_}
 use borrow.Author.Needs.{needs}
-use Rattle.engine.proofs.Linking.{Posting, posting-start, posting-next, posting-end}
+use Rattle.engine.proofs.Plans.Linking.{Posting, posting-start, posting-next, posting-end}
 use Rattle.engine.proofs.plan.posts.Statement.{statement}
 use Rattle.engine.proofs.plan.posts.Tie as tie
 

@@ -2,7 +2,7 @@
 use mathlib.Core.Path.{ap, _∙_}
 use Prim.Native.Nat.{ℕ, _+_, _*_}
 use native.Mathlib.Omega.{arith}
-use Rattle.sheet.proofs.Loops.{byte-past}
+use Rattle.sheet.proofs.Readers.Loops.{byte-past}
 use borrow.Author.Needs.{needs}
 use Rattle.engine.proofs.plan.size.Statement.{statement}
 use Rattle.engine.proofs.plan.size.Tie as tie

@@ -1,6 +1,6 @@
 -- `plan::text` meets its contract. Assumes nothing.
 use borrow.Author.Needs.{needs}
-use Rattle.engine.proofs.Storing.{text-nothing, text-something}
+use Rattle.engine.proofs.Plans.Storing.{text-nothing, text-something}
 use Rattle.engine.proofs.plan.text.Statement.{statement}
 use Rattle.engine.proofs.plan.text.Tie as tie
 

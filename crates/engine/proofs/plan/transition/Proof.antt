@@ -1,6 +1,6 @@
 -- `plan::transition` meets its contract. Assumes nothing.
 use borrow.Author.Needs.{needs}
-use Rattle.engine.proofs.Storing.{transition-words}
+use Rattle.engine.proofs.Plans.Storing.{transition-words}
 use Rattle.engine.proofs.plan.transition.Statement.{statement}
 use Rattle.engine.proofs.plan.transition.Tie as tie
 

@@ -5,7 +5,7 @@ use borrow.Author.Tests.{leb-true}
 use lib.Dec.{leb}
 use lib.ListN.{take}
 use Rattle.sheet.proofs.Tables.{every-at}
-use Rattle.engine.proofs.Linking.{Linking, turnOf, turn-alone, turn-paired, turning-start, turning-few, turning-next, turning-end}
+use Rattle.engine.proofs.Plans.Linking.{Linking, turnOf, turn-alone, turn-paired, turning-start, turning-few, turning-next, turning-end}
 use Rattle.engine.proofs.plan.transitions.Statement.{statement}
 use Rattle.engine.proofs.plan.transitions.Tie as tie
 

@@ -1,6 +1,6 @@
 -- `plan::triple` meets its contract. Assumes nothing.
 use borrow.Author.Needs.{needs}
-use Rattle.engine.proofs.Storing.{triple-words}
+use Rattle.engine.proofs.Plans.Storing.{triple-words}
 use Rattle.engine.proofs.plan.triple.Statement.{statement}
 use Rattle.engine.proofs.plan.triple.Tie as tie
 

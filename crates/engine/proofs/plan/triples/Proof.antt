@@ -1,7 +1,7 @@
 -- `plan::triples` meets its contract. Assumes nothing.
 use native.Mathlib.Omega.{arith}
 use borrow.Author.Needs.{needs}
-use Rattle.engine.proofs.Linking.{Tripling, tripling-start, tripling-few, tripling-next, tripling-end}
+use Rattle.engine.proofs.Plans.Linking.{Tripling, tripling-start, tripling-few, tripling-next, tripling-end}
 use Rattle.engine.proofs.plan.triples.Statement.{statement}
 use Rattle.engine.proofs.plan.triples.Tie as tie
 

@@ -4,7 +4,7 @@ use Prim.Native.Nat.{_-_}
 use borrow.Author.Needs.{needs}
 use native.Mathlib.Omega.{arith}
 use lib.ListN.{length}
-use Rattle.engine.proofs.Rowing.{Closing, closing-start, closing-end, closing-next}
+use Rattle.engine.proofs.InWords.Rowing.{Closing, closing-start, closing-end, closing-next}
 use Rattle.engine.proofs.row.close.Statement.{statement}
 use Rattle.engine.proofs.row.close.Tie as tie
 

@@ -1,6 +1,6 @@
 -- `row::entry_refusal` meets its contract. Assumes nothing.
 use borrow.Author.Needs.{needs}
-use Rattle.engine.proofs.Refused.{entry-again, entry-free, entry-full}
+use Rattle.engine.proofs.InWords.Refused.{entry-again, entry-free, entry-full}
 use Rattle.engine.proofs.row.entry_refusal.Statement.{statement}
 use Rattle.engine.proofs.row.entry_refusal.Tie as tie
 

@@ -1,7 +1,7 @@
 -- `row::exit_refusal` meets its contract. Assumes nothing.
 use borrow.Author.Needs.{needs}
 use native.Mathlib.Omega.{arith}
-use Rattle.engine.proofs.Refused.{exit-free, exit-other, exit-unknown}
+use Rattle.engine.proofs.InWords.Refused.{exit-free, exit-other, exit-unknown}
 use Rattle.engine.proofs.row.exit_refusal.Statement.{statement}
 use Rattle.engine.proofs.row.exit_refusal.Tie as tie
 

@@ -1,7 +1,7 @@
 -- `row::place_of` meets its contract. Assumes nothing.
 use Prim.Native.Nat.{_-_}
 use borrow.Author.Needs.{needs}
-use Rattle.engine.proofs.Rowing.{Looking, looking-start, looking-end, looking-found, looking-more}
+use Rattle.engine.proofs.InWords.Rowing.{Looking, looking-start, looking-end, looking-found, looking-more}
 use Rattle.engine.proofs.row.place_of.Statement.{statement}
 use Rattle.engine.proofs.row.place_of.Tie as tie
 

@@ -2,7 +2,7 @@
 use mathlib.Core.Path.{_≡_}
 use borrow.Author.Needs.{needs}
 use lib.ListN.{length}
-use Rattle.engine.proofs.Rowing.{put-there}
+use Rattle.engine.proofs.InWords.Rowing.{put-there}
 use Rattle.engine.proofs.row.put.Statement.{statement}
 use Rattle.engine.proofs.row.put.Tie as tie
 

@@ -1,7 +1,7 @@
 -- `row::refusal` meets its contract. Assumes nothing.
 use borrow.Author.Needs.{needs}
 use native.Mathlib.Omega.{arith}
-use Rattle.engine.proofs.Refused.{refused-judged, refused-form, refused-last, refused-entry, refused-exit}
+use Rattle.engine.proofs.InWords.Refused.{refused-judged, refused-form, refused-last, refused-entry, refused-exit}
 use Rattle.engine.proofs.row.refusal.Statement.{statement}
 use Rattle.engine.proofs.row.refusal.Tie as tie
 

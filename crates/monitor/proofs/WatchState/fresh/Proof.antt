@@ -1,5 +1,5 @@
 -- `fresh` meets its contract. Assumes nothing.
-use Rattle.monitor.proofs.Starting.{fresh-accepted, fresh-refused}
+use Rattle.monitor.proofs.States.Starting.{fresh-accepted, fresh-refused}
 use borrow.Author.Needs.{needs}
 use Rattle.monitor.proofs.WatchState.fresh.Statement.{statement}
 use Rattle.monitor.proofs.WatchState.fresh.Tie as tie

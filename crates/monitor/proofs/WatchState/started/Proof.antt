@@ -1,5 +1,5 @@
 -- `started` meets its contract. Assumes nothing.
-use Rattle.monitor.proofs.Starting.{started-found}
+use Rattle.monitor.proofs.States.Starting.{started-found}
 use borrow.Author.Needs.{needs}
 use Rattle.monitor.proofs.WatchState.started.Statement.{statement}
 use Rattle.monitor.proofs.WatchState.started.Tie as tie

@@ -1,8 +1,8 @@
 -- `accepted::offer_accepted` meets its contract. Assumes nothing.
 use mathlib.Core.Path.{sym, _∙_}
 use borrow.Author.Needs.{needs}
-use Rattle.monitor.proofs.Answering.{unsound}
-use Rattle.monitor.proofs.Packed.{tables-there}
+use Rattle.monitor.proofs.Offers.Answering.{unsound}
+use Rattle.monitor.proofs.Offers.Packed.{tables-there}
 use Rattle.monitor.proofs.accepted.offer_accepted.Statement.{statement}
 use Rattle.monitor.proofs.accepted.offer_accepted.Tie as tie
 

@@ -1,6 +1,6 @@
 -- `accepted::offer_sound` meets its contract. Assumes nothing.
 use borrow.Author.Needs.{needs}
-use Rattle.monitor.proofs.Packed.{sound-opened, few-opened, offer-refused, offer-taken}
+use Rattle.monitor.proofs.Offers.Packed.{sound-opened, few-opened, offer-refused, offer-taken}
 use Rattle.monitor.proofs.accepted.offer_sound.Statement.{statement}
 use Rattle.monitor.proofs.accepted.offer_sound.Tie as tie
 

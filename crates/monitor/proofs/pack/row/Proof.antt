@@ -4,8 +4,8 @@ use Prim.Native.Nat.{_-_, _<_}
 use native.Mathlib.Omega.{arith}
 use borrow.Author.Needs.{needs}
 use lib.ListN.{length}
-use Rattle.monitor.proofs.Checks.{length-mapped}
-use Rattle.monitor.proofs.Packed.{Packing, packing-start, packing-next, packing-end}
+use Rattle.monitor.proofs.SoundTests.Checks.{length-mapped}
+use Rattle.monitor.proofs.Offers.Packed.{Packing, packing-start, packing-next, packing-end}
 use Rattle.monitor.proofs.pack.row.Statement.{statement}
 use Rattle.monitor.proofs.pack.row.Tie as tie
 

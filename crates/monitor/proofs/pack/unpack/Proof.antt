@@ -3,7 +3,7 @@ use mathlib.Core.Path.{refl}
 use Prim.Native.Nat.{_-_, _<_}
 use native.Mathlib.Omega.{arith}
 use borrow.Author.Needs.{needs}
-use Rattle.monitor.proofs.Packed.{Unpacking, unpacking-start, unpacking-next, unpacking-end}
+use Rattle.monitor.proofs.Offers.Packed.{Unpacking, unpacking-start, unpacking-next, unpacking-end}
 use Rattle.monitor.proofs.pack.unpack.Statement.{statement}
 use Rattle.monitor.proofs.pack.unpack.Tie as tie
 

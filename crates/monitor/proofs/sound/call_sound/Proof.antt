@@ -2,7 +2,7 @@
 use mathlib.Core.Path.{_≡_}
 use borrow.Author.Needs.{needs}
 use lib.ListN.{length}
-use Rattle.monitor.proofs.Checks.{call-is}
+use Rattle.monitor.proofs.SoundTests.Checks.{call-is}
 use Rattle.monitor.proofs.sound.call_sound.Statement.{statement}
 use Rattle.monitor.proofs.sound.call_sound.Tie as tie
 

@@ -9,7 +9,7 @@ use Rattle.sheet.specs.Decode.{sheetOf}
 use Rattle.step.specs.Lists.{beside}
 use Rattle.monitor.specs.Sound.{callSound}
 use Rattle.monitor.specs.Padded.{shown}
-use Rattle.monitor.proofs.Testing.{pair-end, pair-far, pair-next, pair-fails}
+use Rattle.monitor.proofs.SoundTests.Testing.{pair-end, pair-far, pair-next, pair-fails}
 use Rattle.monitor.proofs.sound.calls_sound.Statement.{statement}
 use Rattle.monitor.proofs.sound.calls_sound.Tie as tie
 

@@ -1,6 +1,6 @@
 -- `sound::is_tidy` meets its contract. Assumes nothing.
 use borrow.Author.Needs.{needs}
-use Rattle.monitor.proofs.Testing.{tidy-is}
+use Rattle.monitor.proofs.SoundTests.Testing.{tidy-is}
 use Rattle.monitor.proofs.sound.is_tidy.Statement.{statement}
 use Rattle.monitor.proofs.sound.is_tidy.Tie as tie
 

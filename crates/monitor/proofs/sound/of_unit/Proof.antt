@@ -10,7 +10,7 @@ use lib.ListN.{length, take, drop}
 use Rattle.sheet.specs.Table.{every}
 use Rattle.step.proofs.Turns.{part-end, part-far, part-next, part-fails}
 use Rattle.monitor.specs.Walk.{tripleAt}
-use Rattle.monitor.proofs.Testing.{unit-is}
+use Rattle.monitor.proofs.SoundTests.Testing.{unit-is}
 use Rattle.monitor.proofs.sound.of_unit.Statement.{statement}
 use Rattle.monitor.proofs.sound.of_unit.Tie as tie
 

@@ -2,7 +2,7 @@
 use mathlib.Core.Path.{_≡_}
 use borrow.Author.Needs.{needs}
 use lib.ListN.{length}
-use Rattle.monitor.proofs.Checks.{length-mapped}
+use Rattle.monitor.proofs.SoundTests.Checks.{length-mapped}
 use Rattle.monitor.proofs.sound.opened_in.Statement.{statement}
 use Rattle.monitor.proofs.sound.opened_in.Tie as tie
 

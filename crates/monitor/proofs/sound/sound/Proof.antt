@@ -1,6 +1,6 @@
 -- `sound::sound` meets its contract. Assumes nothing.
 use borrow.Author.Needs.{needs}
-use Rattle.monitor.proofs.Checks.{sound-is}
+use Rattle.monitor.proofs.SoundTests.Checks.{sound-is}
 use Rattle.monitor.proofs.sound.sound.Statement.{statement}
 use Rattle.monitor.proofs.sound.sound.Tie as tie
 

@@ -1,5 +1,5 @@
 -- `NetworkState::fresh` meets its contract. Assumes nothing.
-use Rattle.network.proofs.Starting.{fresh-accepted, fresh-refused}
+use Rattle.network.proofs.States.Starting.{fresh-accepted, fresh-refused}
 use borrow.Author.Needs.{needs}
 use Rattle.network.proofs.NetworkState.fresh.Statement.{statement}
 use Rattle.network.proofs.NetworkState.fresh.Tie as tie

@@ -1,5 +1,5 @@
 -- `NetworkState::started` meets its contract. Assumes nothing.
-use Rattle.network.proofs.Starting.{started-found}
+use Rattle.network.proofs.States.Starting.{started-found}
 use borrow.Author.Needs.{needs}
 use Rattle.network.proofs.NetworkState.started.Statement.{statement}
 use Rattle.network.proofs.NetworkState.started.Tie as tie

@@ -1,8 +1,8 @@
 -- `accepted::offer_accepted` meets its contract. Assumes nothing.
 use mathlib.Core.Path.{sym, _∙_}
 use borrow.Author.Needs.{needs}
-use Rattle.network.proofs.Answering.{unsound}
-use Rattle.network.proofs.Packed.{short-said, tables-there}
+use Rattle.network.proofs.Offers.Answering.{unsound}
+use Rattle.network.proofs.Offers.Packed.{short-said, tables-there}
 use Rattle.network.proofs.accepted.offer_accepted.Statement.{statement}
 use Rattle.network.proofs.accepted.offer_accepted.Tie as tie
 

@@ -1,6 +1,6 @@
 -- `accepted::offer_sound` meets its contract. Assumes nothing.
 use borrow.Author.Needs.{needs}
-use Rattle.network.proofs.Packed.{sound-opened, few-opened, offer-refused, offer-taken}
+use Rattle.network.proofs.Offers.Packed.{sound-opened, few-opened, offer-refused, offer-taken}
 use Rattle.network.proofs.accepted.offer_sound.Statement.{statement}
 use Rattle.network.proofs.accepted.offer_sound.Tie as tie
 

@@ -3,8 +3,8 @@ use mathlib.Core.Path.{_≡_}
 use borrow.Author.Needs.{needs}
 use Prim.Native.Nat.{_<_}
 use lib.ListN.{length}
-use Rattle.network.proofs.Holding.{length-mapped}
-use Rattle.network.proofs.Entries.{both-below, entry-past, entry-there, entry-none}
+use Rattle.network.proofs.SoundTests.Holding.{length-mapped}
+use Rattle.network.proofs.Offers.Entries.{both-below, entry-past, entry-there, entry-none}
 use Rattle.network.proofs.entry.entry_values.Statement.{statement}
 use Rattle.network.proofs.entry.entry_values.Tie as tie
 

@@ -4,7 +4,7 @@ use Prim.Native.Nat.{_+_, _-_, _<_}
 use native.Mathlib.Omega.{arith}
 use borrow.Author.Needs.{needs}
 use lib.ListN.{length}
-use Rattle.network.proofs.Packing.{Appending, appending-start, appending-next, appending-end}
+use Rattle.network.proofs.Offers.Packing.{Appending, appending-start, appending-next, appending-end}
 use Rattle.network.proofs.pack.append.Statement.{statement}
 use Rattle.network.proofs.pack.append.Tie as tie
 

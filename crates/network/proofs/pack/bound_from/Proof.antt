@@ -5,7 +5,7 @@ use native.Mathlib.Omega.{arith}
 use borrow.Author.Needs.{needs}
 use lib.ListN.{take, drop}
 use Rattle.network.specs.Packed.{checkerIn}
-use Rattle.network.proofs.Packing.{Bounding, bounding-start, bounding-past, bounding-other, bounding-next, bounding-full}
+use Rattle.network.proofs.Offers.Packing.{Bounding, bounding-start, bounding-past, bounding-other, bounding-next, bounding-full}
 use Rattle.network.proofs.pack.bound_from.Statement.{statement}
 use Rattle.network.proofs.pack.bound_from.Tie as tie
 

@@ -6,8 +6,8 @@ use native.Mathlib.Omega.{arith}
 use borrow.Author.Needs.{needs}
 use lib.ListN.{length, take}
 use Rattle.network.specs.Packed.{checkerIn}
-use Rattle.network.proofs.Holding.{length-mapped}
-use Rattle.network.proofs.Packing.{Packing, packing-start, packing-next, packing-end}
+use Rattle.network.proofs.SoundTests.Holding.{length-mapped}
+use Rattle.network.proofs.Offers.Packing.{Packing, packing-start, packing-next, packing-end}
 use Rattle.network.proofs.pack.row.Statement.{statement}
 use Rattle.network.proofs.pack.row.Tie as tie
 

@@ -3,7 +3,7 @@ use mathlib.Core.Path.{refl}
 use Prim.Native.Nat.{_-_, _≤_, _<_}
 use native.Mathlib.Omega.{arith}
 use borrow.Author.Needs.{needs}
-use Rattle.network.proofs.Packing.{Unpacking, arms-few, held-long, unpacking-start, unpacking-next, unpacking-end}
+use Rattle.network.proofs.Offers.Packing.{Unpacking, arms-few, held-long, unpacking-start, unpacking-next, unpacking-end}
 use Rattle.network.proofs.pack.unpack.Statement.{statement}
 use Rattle.network.proofs.pack.unpack.Tie as tie
 

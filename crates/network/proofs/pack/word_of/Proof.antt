@@ -1,7 +1,7 @@
 -- `pack::word_of` meets its contract. Assumes nothing.
 use mathlib.Core.Path.{refl}
 use borrow.Author.Needs.{needs}
-use Rattle.network.proofs.Packing.{word-back}
+use Rattle.network.proofs.Offers.Packing.{word-back}
 use Rattle.network.proofs.pack.word_of.Statement.{statement}
 use Rattle.network.proofs.pack.word_of.Tie as tie
 

@@ -4,7 +4,7 @@ use Prim.Native.Nat.{_-_, _<_}
 use native.Mathlib.Omega.{arith}
 use borrow.Author.Needs.{needs}
 use lib.ListN.{length}
-use Rattle.network.proofs.Packing.{Wording, wording-start, wording-next, wording-end}
+use Rattle.network.proofs.Offers.Packing.{Wording, wording-start, wording-next, wording-end}
 use Rattle.network.proofs.pack.words_of.Statement.{statement}
 use Rattle.network.proofs.pack.words_of.Tie as tie
 

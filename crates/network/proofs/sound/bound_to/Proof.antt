@@ -7,7 +7,7 @@ use borrow.Author.Tests.{eq-eqb, ne-eqb}
 use native.Mathlib.Omega.{arith}
 use lib.ListN.{length}
 use Rattle.network.specs.Network.{boundTo}
-use Rattle.network.proofs.Counting.{Counting, count-start, count-end, count-far, count-here, count-not-here}
+use Rattle.network.proofs.SoundTests.Counting.{Counting, count-start, count-end, count-far, count-here, count-not-here}
 use Rattle.network.proofs.sound.bound_to.Statement.{statement}
 use Rattle.network.proofs.sound.bound_to.Tie as tie
 

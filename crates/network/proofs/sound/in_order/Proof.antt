@@ -10,7 +10,7 @@ use Rattle.step.specs.declared.Call.{Call}
 use Rattle.step.specs.Lists.{placeOf}
 use Rattle.network.specs.declared.Checker.{Checker}
 use Rattle.network.specs.Sound.{neverFalls}
-use Rattle.network.proofs.Counting.{falls-end, falls-far, falls-next, falls-fails}
+use Rattle.network.proofs.SoundTests.Counting.{falls-end, falls-far, falls-next, falls-fails}
 use Rattle.network.proofs.sound.in_order.Statement.{statement}
 use Rattle.network.proofs.sound.in_order.Tie as tie
 

@@ -1,7 +1,7 @@
 -- `sound::on_call` meets its contract. Assumes nothing.
 use borrow.Author.Needs.{needs}
 use lib.ListN.{take}
-use Rattle.network.proofs.Holding.{template-read, on-call-is}
+use Rattle.network.proofs.SoundTests.Holding.{template-read, on-call-is}
 use Rattle.network.proofs.sound.on_call.Statement.{statement}
 use Rattle.network.proofs.sound.on_call.Tie as tie
 

@@ -2,7 +2,7 @@
 use mathlib.Core.Path.{_≡_}
 use borrow.Author.Needs.{needs}
 use lib.ListN.{length}
-use Rattle.network.proofs.Holding.{length-mapped}
+use Rattle.network.proofs.SoundTests.Holding.{length-mapped}
 use Rattle.network.proofs.sound.opened_in.Statement.{statement}
 use Rattle.network.proofs.sound.opened_in.Tie as tie
 

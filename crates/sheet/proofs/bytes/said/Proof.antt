@@ -1,5 +1,5 @@
 -- `bytes::said` meets its contract. Assumes nothing.
-use Rattle.sheet.proofs.Widths.{said-wide, said-narrow}
+use Rattle.sheet.proofs.Readers.Widths.{said-wide, said-narrow}
 use native.Mathlib.Omega.{arith}
 use borrow.Author.Needs.{needs}
 use Rattle.sheet.proofs.bytes.said.Statement.{statement}

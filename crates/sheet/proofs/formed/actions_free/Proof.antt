@@ -5,7 +5,7 @@ use mathlib.Core.Bool.{not, false}
 use Rattle.condition.specs.Tree.{actionNames, isAtEntry}
 use Rattle.condition.specs.Answer.{actionWhich}
 use Rattle.sheet.specs.Decode.{textForm}
-use Rattle.sheet.proofs.Loops.{Going, going-start, going-tested, sized-next}
+use Rattle.sheet.proofs.Readers.Loops.{Going, going-start, going-tested, sized-next}
 use Rattle.sheet.proofs.formed.actions_free.Statement.{statement}
 use Rattle.sheet.proofs.formed.actions_free.Tie as tie
 

@@ -4,7 +4,7 @@ use borrow.Author.Needs.{needs}
 use mathlib.Core.Bool.{true}
 use Rattle.condition.specs.Answer.{conditionWhich}
 use Rattle.sheet.specs.Decode.{textForm}
-use Rattle.sheet.proofs.Loops.{Going, going-start, going-tested, sized-next}
+use Rattle.sheet.proofs.Readers.Loops.{Going, going-start, going-tested, sized-next}
 use Rattle.sheet.proofs.formed.conditions_formed.Statement.{statement}
 use Rattle.sheet.proofs.formed.conditions_formed.Tie as tie
 

@@ -2,7 +2,7 @@
 use mathlib.Core.Logic.{⊎-elim}
 use borrow.Author.Needs.{needs}
 use Prim.Native.Nat.{_-_}
-use Rattle.sheet.proofs.Indexing.{Indexed, indexed-start, indexed-next, indexed-past, indexed-end}
+use Rattle.sheet.proofs.Readers.Indexing.{Indexed, indexed-start, indexed-next, indexed-past, indexed-end}
 use Rattle.sheet.proofs.index.index.Statement.{statement}
 use Rattle.sheet.proofs.index.index.Tie as tie
 

@@ -1,6 +1,6 @@
 -- `log::read` meets its contract. Assumes nothing.
 use mathlib.Core.Path.{_∙_}
-use Rattle.sheet.proofs.Logs.{log-16, log-long, log-17, log-18, log-accepted}
+use Rattle.sheet.proofs.Readers.Logs.{log-16, log-long, log-17, log-18, log-accepted}
 use borrow.Author.Needs.{needs}
 use Rattle.sheet.proofs.log.read.Statement.{statement}
 use Rattle.sheet.proofs.log.read.Tie as tie

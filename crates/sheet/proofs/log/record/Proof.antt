@@ -1,7 +1,7 @@
 -- `log::record` meets its contract. Assumes nothing.
 use mathlib.Core.Path.{_∙_}
-use Rattle.sheet.proofs.Loops.{byte-here, byte-past}
-use Rattle.sheet.proofs.Logs.{half-past}
+use Rattle.sheet.proofs.Readers.Loops.{byte-here, byte-past}
+use Rattle.sheet.proofs.Readers.Logs.{half-past}
 use borrow.Author.Needs.{needs}
 use Rattle.sheet.proofs.log.record.Statement.{statement}
 use Rattle.sheet.proofs.log.record.Tie as tie

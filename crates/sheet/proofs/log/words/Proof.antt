@@ -2,7 +2,7 @@
 use mathlib.Core.Logic.{⊎-elim}
 use borrow.Author.Needs.{needs}
 use Prim.Native.Nat.{_-_}
-use Rattle.sheet.proofs.Logs.{Filled, filled-start, filled-next, filled-past, filled-end}
+use Rattle.sheet.proofs.Readers.Logs.{Filled, filled-start, filled-next, filled-past, filled-end}
 use Rattle.sheet.proofs.log.words.Statement.{statement}
 use Rattle.sheet.proofs.log.words.Tie as tie
 

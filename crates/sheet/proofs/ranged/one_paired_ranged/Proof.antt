@@ -4,7 +4,7 @@ use mathlib.Core.Bool.{_&&_}
 use Rattle.sheet.specs.Table.{table, every}
 use Rattle.sheet.specs.Decode.{templateForm}
 use Rattle.sheet.specs.Reading.{transitionRanged, pairRanged}
-use Rattle.sheet.proofs.Found.{paired-value}
+use Rattle.sheet.proofs.Readers.Found.{paired-value}
 use borrow.Author.Needs.{needs}
 use Rattle.sheet.proofs.ranged.one_paired_ranged.Statement.{statement}
 use Rattle.sheet.proofs.ranged.one_paired_ranged.Tie as tie

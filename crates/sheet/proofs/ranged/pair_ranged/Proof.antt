@@ -1,6 +1,6 @@
 -- `ranged::pair_ranged` meets its contract. Assumes nothing.
 use borrow.Author.Needs.{needs}
-use Rattle.sheet.proofs.Found.{pair-found}
+use Rattle.sheet.proofs.Readers.Found.{pair-found}
 use Rattle.sheet.proofs.ranged.pair_ranged.Statement.{statement}
 use Rattle.sheet.proofs.ranged.pair_ranged.Tie as tie
 

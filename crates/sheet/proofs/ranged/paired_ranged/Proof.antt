@@ -6,7 +6,7 @@ use native.Mathlib.Omega.{arith}
 use Rattle.sheet.specs.Table.{table}
 use Rattle.sheet.specs.Decode.{templateForm, pairedForm}
 use Rattle.sheet.specs.Walk.{pairedRanged}
-use Rattle.sheet.proofs.Loops.{Going, going-start, going-tested, sized-next, byte-past}
+use Rattle.sheet.proofs.Readers.Loops.{Going, going-start, going-tested, sized-next, byte-past}
 use Rattle.sheet.proofs.ranged.paired_ranged.Statement.{statement}
 use Rattle.sheet.proofs.ranged.paired_ranged.Tie as tie
 

@@ -5,7 +5,7 @@ use native.Mathlib.Omega.{arith}
 use Rattle.sheet.specs.Decode.{pairForm, templateForm}
 use Rattle.sheet.specs.Table.{table}
 use Rattle.sheet.specs.Reading.{pairRanged}
-use Rattle.sheet.proofs.Loops.{Going, going-start, going-tested, sized-next}
+use Rattle.sheet.proofs.Readers.Loops.{Going, going-start, going-tested, sized-next}
 use Rattle.sheet.proofs.ranged.pairs_ranged.Statement.{statement}
 use Rattle.sheet.proofs.ranged.pairs_ranged.Tie as tie
 

@@ -4,7 +4,7 @@ use borrow.Author.Needs.{needs}
 use native.Mathlib.Omega.{arith}
 use Rattle.sheet.specs.Decode.{tripleForm}
 use Rattle.sheet.specs.Reading.{tripleRanged}
-use Rattle.sheet.proofs.Loops.{Going, going-start, going-tested, sized-next}
+use Rattle.sheet.proofs.Readers.Loops.{Going, going-start, going-tested, sized-next}
 use Rattle.sheet.proofs.ranged.triples_ranged.Statement.{statement}
 use Rattle.sheet.proofs.ranged.triples_ranged.Tie as tie
 

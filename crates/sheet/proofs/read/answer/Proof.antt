@@ -1,5 +1,5 @@
 -- `read::answer` meets its contract. Assumes nothing.
-use Rattle.sheet.proofs.Logs.{answer-refused}
+use Rattle.sheet.proofs.Readers.Logs.{answer-refused}
 use borrow.Author.Needs.{needs}
 use Rattle.sheet.proofs.read.answer.Statement.{statement}
 use Rattle.sheet.proofs.read.answer.Tie as tie

@@ -1,5 +1,5 @@
 -- `read::counts` meets its contract. Assumes nothing.
-use Rattle.sheet.proofs.Refusals.{counts-found}
+use Rattle.sheet.proofs.Readers.Refusals.{counts-found}
 use borrow.Author.Needs.{needs}
 use Rattle.sheet.proofs.read.counts.Statement.{statement}
 use Rattle.sheet.proofs.read.counts.Tie as tie

@@ -1,5 +1,5 @@
 -- `read::lent` meets its contract. Assumes nothing.
-use Rattle.sheet.proofs.Refusals.{lent-found}
+use Rattle.sheet.proofs.Readers.Refusals.{lent-found}
 use borrow.Author.Needs.{needs}
 use Rattle.sheet.proofs.read.lent.Statement.{statement}
 use Rattle.sheet.proofs.read.lent.Tie as tie

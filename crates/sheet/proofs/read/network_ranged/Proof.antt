@@ -1,5 +1,5 @@
 -- `read::network_ranged` meets its contract. Assumes nothing.
-use Rattle.sheet.proofs.Refusals.{network-ranged-found, transitions-there, last-there}
+use Rattle.sheet.proofs.Readers.Refusals.{network-ranged-found, transitions-there, last-there}
 use Rattle.sheet.specs.Reading.{networkLayout}
 use borrow.Author.Needs.{needs}
 use Rattle.sheet.proofs.read.network_ranged.Statement.{statement}

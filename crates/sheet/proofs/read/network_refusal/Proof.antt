@@ -2,7 +2,7 @@
 use mathlib.Core.Path.{refl, sym, _∙_}
 use mathlib.Core.Bool.{true, false}
 use Rattle.sheet.specs.Reading.{networkLayout}
-use Rattle.sheet.proofs.Refusals.{refuse-1, refuse-2, refuse-3, refuse-4, refuse-5, refuse-6, refuse-7, refuse-none, tabled-is, texts-there, few-network}
+use Rattle.sheet.proofs.Readers.Refusals.{refuse-1, refuse-2, refuse-3, refuse-4, refuse-5, refuse-6, refuse-7, refuse-none, tabled-is, texts-there, few-network}
 use borrow.Author.Needs.{needs}
 use Rattle.sheet.proofs.read.network_refusal.Statement.{statement}
 use Rattle.sheet.proofs.read.network_refusal.Tie as tie

@@ -1,5 +1,5 @@
 -- `read::network_roled` meets its contract. Assumes nothing.
-use Rattle.sheet.proofs.Refusals.{network-roled-found, texts-there, transitions-there, last-there}
+use Rattle.sheet.proofs.Readers.Refusals.{network-roled-found, texts-there, transitions-there, last-there}
 use Rattle.sheet.specs.Reading.{networkLayout}
 use borrow.Author.Needs.{needs}
 use Rattle.sheet.proofs.read.network_roled.Statement.{statement}

@@ -1,5 +1,5 @@
 -- `read::sheet_ranged` meets its contract. Assumes nothing.
-use Rattle.sheet.proofs.Refusals.{sheet-ranged-found, transitions-there, last-there}
+use Rattle.sheet.proofs.Readers.Refusals.{sheet-ranged-found, transitions-there, last-there}
 use Rattle.sheet.specs.Reading.{sheetLayout}
 use borrow.Author.Needs.{needs}
 use Rattle.sheet.proofs.read.sheet_ranged.Statement.{statement}

@@ -3,7 +3,7 @@ use mathlib.Core.Path.{sym, _∙_}
 use mathlib.Core.Bool.{true, false}
 use native.Mathlib.Omega.{arith}
 use Rattle.sheet.specs.Reading.{sheetLayout}
-use Rattle.sheet.proofs.Refusals.{refuse-1, refuse-2, refuse-3, refuse-4, refuse-5, refuse-6, refuse-7, refuse-8, refuse-none, counted-is, tabled-is, texts-there, last-there, few-conditions, spread-is, all-within}
+use Rattle.sheet.proofs.Readers.Refusals.{refuse-1, refuse-2, refuse-3, refuse-4, refuse-5, refuse-6, refuse-7, refuse-8, refuse-none, counted-is, tabled-is, texts-there, last-there, few-conditions, spread-is, all-within}
 use borrow.Author.Needs.{needs}
 use Rattle.sheet.proofs.read.sheet_refusal.Statement.{statement}
 use Rattle.sheet.proofs.read.sheet_refusal.Tie as tie

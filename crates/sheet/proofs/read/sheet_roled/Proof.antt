@@ -1,5 +1,5 @@
 -- `read::sheet_roled` meets its contract. Assumes nothing.
-use Rattle.sheet.proofs.Refusals.{sheet-roled-found, texts-there, transitions-there, last-there}
+use Rattle.sheet.proofs.Readers.Refusals.{sheet-roled-found, texts-there, transitions-there, last-there}
 use Rattle.sheet.specs.Reading.{sheetLayout}
 use borrow.Author.Needs.{needs}
 use Rattle.sheet.proofs.read.sheet_roled.Statement.{statement}

@@ -1,5 +1,5 @@
 -- `read::texts_formed` meets its contract. Assumes nothing.
-use Rattle.sheet.proofs.Refusals.{formed-found}
+use Rattle.sheet.proofs.Readers.Refusals.{formed-found}
 use borrow.Author.Needs.{needs}
 use Rattle.sheet.proofs.read.texts_formed.Statement.{statement}
 use Rattle.sheet.proofs.read.texts_formed.Tie as tie

@@ -1,6 +1,6 @@
 -- `records::template` meets its contract. Assumes nothing.
 use mathlib.Core.Path.{_∙_}
-use Rattle.sheet.proofs.Loops.{byte-here, byte-past}
+use Rattle.sheet.proofs.Readers.Loops.{byte-here, byte-past}
 use borrow.Author.Needs.{needs}
 use Rattle.sheet.proofs.records.template.Statement.{statement}
 use Rattle.sheet.proofs.records.template.Tie as tie

@@ -1,5 +1,5 @@
 -- `records::text` meets its contract. Assumes nothing.
-use Rattle.sheet.proofs.Widths.{text-part}
+use Rattle.sheet.proofs.Readers.Widths.{text-part}
 use borrow.Author.Needs.{needs}
 use Rattle.sheet.proofs.records.text.Statement.{statement}
 use Rattle.sheet.proofs.records.text.Tie as tie

@@ -1,6 +1,6 @@
 -- `records::word` meets its contract. Assumes nothing.
 use mathlib.Core.Path.{_∙_}
-use Rattle.sheet.proofs.Logs.{word-here}
+use Rattle.sheet.proofs.Readers.Logs.{word-here}
 use borrow.Author.Needs.{needs}
 use Rattle.sheet.proofs.records.word.Statement.{statement}
 use Rattle.sheet.proofs.records.word.Tie as tie

@@ -4,7 +4,7 @@ use borrow.Author.Needs.{needs}
 use native.Mathlib.Omega.{arith}
 use Rattle.sheet.specs.Decode.{transitionForm}
 use Rattle.sheet.specs.Walk.{guardSuits}
-use Rattle.sheet.proofs.Loops.{Going, going-start, going-tested, sized-next}
+use Rattle.sheet.proofs.Readers.Loops.{Going, going-start, going-tested, sized-next}
 use Rattle.sheet.proofs.roles.guards_suit.Statement.{statement}
 use Rattle.sheet.proofs.roles.guards_suit.Tie as tie
 

@@ -1,7 +1,7 @@
 -- `roles::names_entry` meets its contract. Assumes nothing.
 use borrow.Author.Needs.{needs}
 use Rattle.condition.specs.Tree.{isAtEntry}
-use Rattle.sheet.proofs.Suits.{names-there, names-past}
+use Rattle.sheet.proofs.Readers.Suits.{names-there, names-past}
 use Rattle.sheet.proofs.roles.names_entry.Statement.{statement}
 use Rattle.sheet.proofs.roles.names_entry.Tie as tie
 

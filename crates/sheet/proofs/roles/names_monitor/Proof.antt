@@ -1,7 +1,7 @@
 -- `roles::names_monitor` meets its contract. Assumes nothing.
 use borrow.Author.Needs.{needs}
 use Rattle.condition.specs.Tree.{isMonitor}
-use Rattle.sheet.proofs.Suits.{names-there, names-past}
+use Rattle.sheet.proofs.Readers.Suits.{names-there, names-past}
 use Rattle.sheet.proofs.roles.names_monitor.Statement.{statement}
 use Rattle.sheet.proofs.roles.names_monitor.Tie as tie
 

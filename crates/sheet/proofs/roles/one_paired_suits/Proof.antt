@@ -3,7 +3,7 @@ use mathlib.Core.Path.{ap₂, _∙_}
 use mathlib.Core.Bool.{_&&_}
 use Rattle.sheet.specs.Table.{every}
 use Rattle.sheet.specs.Walk.{guardSuits, pairSuits}
-use Rattle.sheet.proofs.Found.{paired-value}
+use Rattle.sheet.proofs.Readers.Found.{paired-value}
 use borrow.Author.Needs.{needs}
 use Rattle.sheet.proofs.roles.one_paired_suits.Statement.{statement}
 use Rattle.sheet.proofs.roles.one_paired_suits.Tie as tie

@@ -5,7 +5,7 @@ use borrow.Author.Needs.{needs}
 use native.Mathlib.Omega.{arith}
 use Rattle.sheet.specs.Decode.{pairedForm}
 use Rattle.sheet.specs.Walk.{pairedSuits}
-use Rattle.sheet.proofs.Loops.{Going, going-start, going-tested, sized-next, byte-past}
+use Rattle.sheet.proofs.Readers.Loops.{Going, going-start, going-tested, sized-next, byte-past}
 use Rattle.sheet.proofs.roles.paired_suit.Statement.{statement}
 use Rattle.sheet.proofs.roles.paired_suit.Tie as tie
 

@@ -1,6 +1,6 @@
 -- `spread::spread` meets its contract. Assumes nothing.
 use borrow.Author.Needs.{needs}
-use Rattle.sheet.proofs.Tallies.{Tallying, tallying-start, tallying-below, tallying-next, tallying-full, tallying-end}
+use Rattle.sheet.proofs.Readers.Tallies.{Tallying, tallying-start, tallying-below, tallying-next, tallying-full, tallying-end}
 use Rattle.sheet.proofs.spread.spread.Statement.{statement}
 use Rattle.sheet.proofs.spread.spread.Tie as tie
 

@@ -1,5 +1,5 @@
 -- `walk::find_texts` meets its contract. Assumes nothing.
-use Rattle.sheet.proofs.Found.{texts-found}
+use Rattle.sheet.proofs.Readers.Found.{texts-found}
 use borrow.Author.Needs.{needs}
 use Rattle.sheet.proofs.walk.find_texts.Statement.{statement}
 use Rattle.sheet.proofs.walk.find_texts.Tie as tie

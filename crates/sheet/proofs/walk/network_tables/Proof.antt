@@ -1,5 +1,5 @@
 -- `walk::network_tables` meets its contract. Assumes nothing.
-use Rattle.sheet.proofs.Found.{network-found}
+use Rattle.sheet.proofs.Readers.Found.{network-found}
 use borrow.Author.Needs.{needs}
 use Rattle.sheet.proofs.walk.network_tables.Statement.{statement}
 use Rattle.sheet.proofs.walk.network_tables.Tie as tie

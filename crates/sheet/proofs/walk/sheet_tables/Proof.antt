@@ -1,5 +1,5 @@
 -- `walk::sheet_tables` meets its contract. Assumes nothing.
-use Rattle.sheet.proofs.Found.{sheet-found}
+use Rattle.sheet.proofs.Readers.Found.{sheet-found}
 use borrow.Author.Needs.{needs}
 use Rattle.sheet.proofs.walk.sheet_tables.Statement.{statement}
 use Rattle.sheet.proofs.walk.sheet_tables.Tie as tie

@@ -6,7 +6,7 @@ use borrow.Author.Needs.{needs}
 use Rattle.sheet.specs.Decode.{pairedForm, pairCountForm}
 use Rattle.sheet.specs.Reading.{between}
 use Rattle.sheet.proofs.Tables.{same-after}
-use Rattle.sheet.proofs.Loops.{Going, going-start, going-tested, going-ended, byte-past, sized-next}
+use Rattle.sheet.proofs.Readers.Loops.{Going, going-start, going-tested, going-ended, byte-past, sized-next}
 use Rattle.sheet.proofs.walk.walk_paired.Statement.{statement}
 use Rattle.sheet.proofs.walk.walk_paired.Tie as tie
 

@@ -6,7 +6,7 @@ use borrow.Author.Needs.{needs}
 use Rattle.sheet.specs.Decode.{textForm, lengthForm}
 use Rattle.sheet.specs.Reading.{between, mostBytes}
 use Rattle.sheet.proofs.Tables.{same-after}
-use Rattle.sheet.proofs.Loops.{Going, going-start, going-tested, going-ended, sized-next}
+use Rattle.sheet.proofs.Readers.Loops.{Going, going-start, going-tested, going-ended, sized-next}
 use Rattle.sheet.proofs.walk.walk_texts.Statement.{statement}
 use Rattle.sheet.proofs.walk.walk_texts.Tie as tie
 

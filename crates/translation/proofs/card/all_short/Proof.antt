@@ -2,7 +2,7 @@
 use Prim.Native.Nat.{_-_}
 use native.Mathlib.Omega.{arith}
 use borrow.Author.Needs.{needs}
-use Rattle.translation.proofs.Listing.{Testing, testing-start, next-small, next-there, testing-next, testing-end}
+use Rattle.translation.proofs.Cards.Listing.{Testing, testing-start, next-small, next-there, testing-next, testing-end}
 use Rattle.translation.proofs.card.all_short.Statement.{statement}
 use Rattle.translation.proofs.card.all_short.Tie as tie
 

@@ -1,8 +1,8 @@
 -- `card::condition` meets its contract. Assumes nothing.
 use borrow.Author.Needs.{needs}
 use native.Mathlib.Omega.{arith}
-use Rattle.translation.proofs.Copying.{whole-room, whole-writes}
-use Rattle.translation.proofs.Reaching.{few-conditions, condition-most, condition-is}
+use Rattle.translation.proofs.Sheets.Copying.{whole-room, whole-writes}
+use Rattle.translation.proofs.Cards.Reaching.{few-conditions, condition-most, condition-is}
 use Rattle.translation.proofs.card.condition.Statement.{statement}
 use Rattle.translation.proofs.card.condition.Tie as tie
 

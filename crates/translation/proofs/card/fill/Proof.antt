@@ -3,8 +3,8 @@ use mathlib.Core.Path.{_∙_}
 use borrow.Author.Needs.{needs}
 use native.Mathlib.Omega.{arith}
 use Rattle.translation.proofs.Writing.{writes-length}
-use Rattle.translation.proofs.CardTabling.{counted}
-use Rattle.translation.proofs.CardFilling.{filled}
+use Rattle.translation.proofs.Cards.CardTabling.{counted}
+use Rattle.translation.proofs.Cards.CardFilling.{filled}
 use Rattle.translation.proofs.card.fill.Statement.{statement}
 use Rattle.translation.proofs.card.fill.Tie as tie
 

@@ -1,7 +1,7 @@
 -- `card::guarded` meets its contract. Assumes nothing.
 use native.Mathlib.Omega.{arith}
 use borrow.Author.Needs.{needs}
-use Rattle.translation.proofs.Guarding.{guarded-room, guarded-then}
+use Rattle.translation.proofs.Cards.Guarding.{guarded-room, guarded-then}
 use Rattle.translation.proofs.card.guarded.Statement.{statement}
 use Rattle.translation.proofs.card.guarded.Tie as tie
 

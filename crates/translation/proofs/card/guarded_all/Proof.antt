@@ -3,7 +3,7 @@ use Prim.Native.Nat.{_-_}
 use native.Mathlib.Omega.{arith}
 use borrow.Author.Needs.{needs}
 use Rattle.translation.proofs.Writing.{writes-length}
-use Rattle.translation.proofs.Guarding.{Guarding, guards-start, guards-within, guards-room, guards-next, guards-end}
+use Rattle.translation.proofs.Cards.Guarding.{Guarding, guards-start, guards-within, guards-room, guards-next, guards-end}
 use Rattle.translation.proofs.card.guarded_all.Statement.{statement}
 use Rattle.translation.proofs.card.guarded_all.Tie as tie
 

@@ -4,7 +4,7 @@ use mathlib.Core.Logic.{⊎-elim}
 use native.Mathlib.Omega.{arith}
 use borrow.Author.Needs.{needs}
 use Rattle.translation.proofs.Writing.{writes-length}
-use Rattle.translation.proofs.Joining.{Joining, joining-start, joining-small, joining-there, joining-room-two, joining-room-old, joining-next, joining-other, joining-room-own, joining-end}
+use Rattle.translation.proofs.Cards.Joining.{Joining, joining-start, joining-small, joining-there, joining-room-two, joining-room-old, joining-next, joining-other, joining-room-own, joining-end}
 use Rattle.translation.proofs.card.joined.Statement.{statement}
 use Rattle.translation.proofs.card.joined.Tie as tie
 

@@ -2,7 +2,7 @@
 use native.Mathlib.Omega.{arith}
 use borrow.Author.Needs.{needs}
 use mathlib.Core.List.{[]}
-use Rattle.translation.proofs.Joining.{earlier-most}
+use Rattle.translation.proofs.Cards.Joining.{earlier-most}
 use Rattle.translation.proofs.card.joined_size.Statement.{statement}
 use Rattle.translation.proofs.card.joined_size.Tie as tie
 

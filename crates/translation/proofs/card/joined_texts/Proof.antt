@@ -3,7 +3,7 @@ use Prim.Native.Nat.{_-_}
 use native.Mathlib.Omega.{arith}
 use borrow.Author.Needs.{needs}
 use Rattle.translation.proofs.Writing.{writes-length}
-use Rattle.translation.proofs.Listing.{Listing, listing-start, next-small, next-there, listing-half, listing-room, listing-next, listing-end}
+use Rattle.translation.proofs.Cards.Listing.{Listing, listing-start, next-small, next-there, listing-half, listing-room, listing-next, listing-end}
 use Rattle.translation.proofs.card.joined_texts.Statement.{statement}
 use Rattle.translation.proofs.card.joined_texts.Tie as tie
 

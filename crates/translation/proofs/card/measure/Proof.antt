@@ -1,6 +1,6 @@
 -- `card::measure` meets its contract. Assumes nothing.
 use borrow.Author.Needs.{needs}
-use Rattle.translation.proofs.CardFilling.{measured}
+use Rattle.translation.proofs.Cards.CardFilling.{measured}
 use Rattle.translation.proofs.card.measure.Statement.{statement}
 use Rattle.translation.proofs.card.measure.Tie as tie
 

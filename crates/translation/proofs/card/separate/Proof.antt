@@ -2,8 +2,8 @@
 use mathlib.Core.Path.{sym, _∙_}
 use borrow.Author.Needs.{needs}
 use native.Mathlib.Omega.{arith}
-use Rattle.translation.proofs.CardTabling.{counted}
-use Rattle.translation.proofs.CardFilling.{opened-with, joined-long, whole-long, buffer-short, buffer-holds}
+use Rattle.translation.proofs.Cards.CardTabling.{counted}
+use Rattle.translation.proofs.Cards.CardFilling.{opened-with, joined-long, whole-long, buffer-short, buffer-holds}
 use Rattle.translation.proofs.card.separate.Statement.{statement}
 use Rattle.translation.proofs.card.separate.Tie as tie
 

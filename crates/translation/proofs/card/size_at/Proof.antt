@@ -3,7 +3,7 @@ use mathlib.Core.Path.{ap, _∙_}
 use Prim.Native.Nat.{ℕ, _+_, _*_}
 use native.Mathlib.Omega.{arith}
 use borrow.Author.Needs.{needs}
-use Rattle.sheet.proofs.Loops.{byte-past}
+use Rattle.sheet.proofs.Readers.Loops.{byte-past}
 use Rattle.translation.proofs.card.size_at.Statement.{statement}
 use Rattle.translation.proofs.card.size_at.Tie as tie
 

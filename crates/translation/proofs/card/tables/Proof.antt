@@ -2,8 +2,8 @@
 use borrow.Author.Needs.{needs}
 use native.Mathlib.Omega.{arith}
 use Rattle.translation.proofs.Writing.{writes-length}
-use Rattle.translation.proofs.Tabling.{words-after}
-use Rattle.translation.proofs.CardTabling.{short, conditions-end, actions-end, guarded-end, counted, room-first, next-first, room-second, next-second, read-second, room-third, next-third, room-fourth, next-fourth, room-fifth, next-fifth, room-sixth, tables-done}
+use Rattle.translation.proofs.Sheets.Tabling.{words-after}
+use Rattle.translation.proofs.Cards.CardTabling.{short, conditions-end, actions-end, guarded-end, counted, room-first, next-first, room-second, next-second, read-second, room-third, next-third, room-fourth, next-fourth, room-fifth, next-fifth, room-sixth, tables-done}
 use Rattle.translation.proofs.card.tables.Statement.{statement}
 use Rattle.translation.proofs.card.tables.Tie as tie
 

@@ -2,7 +2,7 @@
 use borrow.Author.Needs.{needs}
 use native.Mathlib.Omega.{arith}
 use Rattle.translation.proofs.Cut.{written-short, cut, written-cut}
-use Rattle.translation.proofs.CardFilling.{narrow-network, carded, never-short}
+use Rattle.translation.proofs.Cards.CardFilling.{narrow-network, carded, never-short}
 use Rattle.translation.proofs.card.translate.Statement.{statement}
 use Rattle.translation.proofs.card.translate.Tie as tie
 

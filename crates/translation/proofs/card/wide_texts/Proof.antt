@@ -2,7 +2,7 @@
 use native.Mathlib.Omega.{arith}
 use borrow.Author.Needs.{needs}
 use Rattle.translation.proofs.Writing.{writes-length}
-use Rattle.translation.proofs.Widening.{WritingWide, wide-start, wide-within, half-room, wide-room, wide-next, wide-end}
+use Rattle.translation.proofs.Cards.Widening.{WritingWide, wide-start, wide-within, half-room, wide-room, wide-next, wide-end}
 use Rattle.translation.proofs.card.wide_texts.Statement.{statement}
 use Rattle.translation.proofs.card.wide_texts.Tie as tie
 

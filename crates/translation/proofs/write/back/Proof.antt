@@ -1,7 +1,7 @@
 -- `write::back` meets its contract. Assumes nothing.
 use native.Mathlib.Omega.{arith}
 use borrow.Author.Needs.{needs}
-use Rattle.translation.proofs.Adding.{back-none, back-room, back-some}
+use Rattle.translation.proofs.Sheets.Adding.{back-none, back-room, back-some}
 use Rattle.translation.proofs.write.back.Statement.{statement}
 use Rattle.translation.proofs.write.back.Tie as tie
 

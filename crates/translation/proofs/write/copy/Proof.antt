@@ -3,7 +3,7 @@ use borrow.Author.Needs.{needs}
 use mathlib.Core.Path.{refl}
 use Prim.Native.Nat.{_+_, _-_}
 use Rattle.translation.proofs.Writing.{writes-length}
-use Rattle.translation.proofs.Copying.{WritingBytes, bytes-start, bytes-room, bytes-next, bytes-end}
+use Rattle.translation.proofs.Sheets.Copying.{WritingBytes, bytes-start, bytes-room, bytes-next, bytes-end}
 use Rattle.translation.proofs.write.copy.Statement.{statement}
 use Rattle.translation.proofs.write.copy.Tie as tie
 

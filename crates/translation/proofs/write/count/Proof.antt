@@ -2,7 +2,7 @@
 use mathlib.Core.Logic.{⊎-elim}
 use Prim.Native.Nat.{_-_}
 use borrow.Author.Needs.{needs}
-use Rattle.translation.proofs.Pairing.{Tally, tally-start, tally-more, tally-same, tally-end}
+use Rattle.translation.proofs.Sheets.Pairing.{Tally, tally-start, tally-more, tally-same, tally-end}
 use Rattle.translation.proofs.write.count.Statement.{statement}
 use Rattle.translation.proofs.write.count.Tie as tie
 

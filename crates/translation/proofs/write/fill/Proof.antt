@@ -4,7 +4,7 @@ use Prim.Native.Nat.{_<_}
 use borrow.Author.Needs.{needs}
 use native.Mathlib.Omega.{arith}
 use Rattle.translation.proofs.Writing.{writes-length}
-use Rattle.translation.proofs.Filling.{network-small, few-texts, few-transitions, filled}
+use Rattle.translation.proofs.Sheets.Filling.{network-small, few-texts, few-transitions, filled}
 use Rattle.translation.proofs.write.fill.Statement.{statement}
 use Rattle.translation.proofs.write.fill.Tie as tie
 

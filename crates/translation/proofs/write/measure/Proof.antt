@@ -1,7 +1,7 @@
 -- `write::measure` meets its contract. Assumes nothing.
 use mathlib.Core.Path.{refl}
 use borrow.Author.Needs.{needs}
-use Rattle.translation.proofs.Filling.{measured}
+use Rattle.translation.proofs.Sheets.Filling.{measured}
 use Rattle.translation.proofs.write.measure.Statement.{statement}
 use Rattle.translation.proofs.write.measure.Tie as tie
 

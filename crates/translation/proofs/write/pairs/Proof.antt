@@ -3,7 +3,7 @@ use mathlib.Core.Logic.{⊎-elim}
 use Prim.Native.Nat.{_-_}
 use borrow.Author.Needs.{needs}
 use Rattle.translation.proofs.Writing.{writes-length}
-use Rattle.translation.proofs.Pairing.{Listing, listing-start, listing-room, listing-more, listing-same, listing-end}
+use Rattle.translation.proofs.Sheets.Pairing.{Listing, listing-start, listing-room, listing-more, listing-same, listing-end}
 use Rattle.translation.proofs.write.pairs.Statement.{statement}
 use Rattle.translation.proofs.write.pairs.Tie as tie
 

@@ -2,7 +2,7 @@
 use borrow.Author.Needs.{needs}
 use native.Mathlib.Omega.{arith}
 use Rattle.translation.proofs.Writing.{writes-length}
-use Rattle.translation.proofs.Tabling.{places-small, words-after, conditions-end, actions-end, added-few, room-first, next-first, room-second, next-second, read-second, room-true, next-true, room-third, next-third, room-empty, next-empty, room-fourth, next-fourth, room-fifth, next-fifth, room-sixth, tables-done}
+use Rattle.translation.proofs.Sheets.Tabling.{places-small, words-after, conditions-end, actions-end, added-few, room-first, next-first, room-second, next-second, read-second, room-true, next-true, room-third, next-third, room-empty, next-empty, room-fourth, next-fourth, room-fifth, next-fifth, room-sixth, tables-done}
 use Rattle.translation.proofs.write.tables.Statement.{statement}
 use Rattle.translation.proofs.write.tables.Tie as tie
 

@@ -10,7 +10,7 @@ use Rattle.sheet.specs.Table.{table}
 use Rattle.sheet.specs.Encode.{templateBytes, written}
 use Rattle.translation.specs.Translate.{templateOf}
 use Rattle.translation.proofs.Writing.{writes-length}
-use Rattle.translation.proofs.Putting.{Putting, putting-start, putting-room, putting-next, putting-end, written-map}
+use Rattle.translation.proofs.Sheets.Putting.{Putting, putting-start, putting-room, putting-next, putting-end, written-map}
 use Rattle.translation.proofs.write.templates.Statement.{statement}
 use Rattle.translation.proofs.write.templates.Tie as tie
 

@@ -2,7 +2,7 @@
 use borrow.Author.Needs.{needs}
 use native.Mathlib.Omega.{arith}
 use Rattle.translation.proofs.Writing.{writes-length}
-use Rattle.translation.proofs.Copying.{WritingTexts, texts-start, text-within, texts-room, texts-next, texts-end}
+use Rattle.translation.proofs.Sheets.Copying.{WritingTexts, texts-start, text-within, texts-room, texts-next, texts-end}
 use Rattle.translation.proofs.write.texts.Statement.{statement}
 use Rattle.translation.proofs.write.texts.Tie as tie
 

@@ -1,6 +1,6 @@
 -- `write::transition` meets its contract. Assumes nothing.
 use borrow.Author.Needs.{needs}
-use Rattle.translation.proofs.Adding.{entry-room, entry-then, exit-then}
+use Rattle.translation.proofs.Sheets.Adding.{entry-room, entry-then, exit-then}
 use Rattle.translation.proofs.write.transition.Statement.{statement}
 use Rattle.translation.proofs.write.transition.Tie as tie
 

@@ -6,7 +6,7 @@ use Rattle.sheet.specs.Decode.{transitionForm}
 use Rattle.sheet.specs.Encode.{pairedBytes}
 use Rattle.translation.specs.Walk.{copiedAt, copiedBytes}
 use Rattle.translation.proofs.Writing.{writes-length}
-use Rattle.translation.proofs.Putting.{Putting, putting-start, putting-room, putting-next, putting-end, written-map}
+use Rattle.translation.proofs.Sheets.Putting.{Putting, putting-start, putting-room, putting-next, putting-end, written-map}
 use Rattle.translation.proofs.write.transitions.Statement.{statement}
 use Rattle.translation.proofs.write.transitions.Tie as tie
 

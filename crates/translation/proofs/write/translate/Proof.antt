@@ -1,7 +1,7 @@
 -- `write::translate` meets its contract. Assumes nothing.
 use borrow.Author.Needs.{needs}
 use native.Mathlib.Omega.{arith}
-use Rattle.translation.proofs.Filling.{prepared-with, too-short, long-enough}
+use Rattle.translation.proofs.Sheets.Filling.{prepared-with, too-short, long-enough}
 use Rattle.translation.proofs.write.translate.Statement.{statement}
 use Rattle.translation.proofs.write.translate.Tie as tie
 

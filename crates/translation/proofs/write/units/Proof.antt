@@ -4,7 +4,7 @@ use native.Mathlib.Omega.{arith}
 use borrow.Author.Needs.{needs}
 use Rattle.translation.specs.Walk.{backAt}
 use Rattle.translation.proofs.Writing.{writes-length}
-use Rattle.translation.proofs.Adding.{Adding, adding-start, adding-room, adding-many, adding-next, adding-end}
+use Rattle.translation.proofs.Sheets.Adding.{Adding, adding-start, adding-room, adding-many, adding-next, adding-end}
 use Rattle.translation.proofs.write.units.Statement.{statement}
 use Rattle.translation.proofs.write.units.Tie as tie
 

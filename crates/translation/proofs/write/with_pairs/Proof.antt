@@ -1,6 +1,6 @@
 -- `write::with_pairs` meets its contract. Assumes nothing.
 use borrow.Author.Needs.{needs}
-use Rattle.translation.proofs.Adding.{counted-then}
+use Rattle.translation.proofs.Sheets.Adding.{counted-then}
 use Rattle.translation.proofs.write.with_pairs.Statement.{statement}
 use Rattle.translation.proofs.write.with_pairs.Tie as tie
 

@@ -6,7 +6,7 @@ use Rattle.sheet.specs.Table.{table}
 use Rattle.sheet.specs.Decode.{wordForm}
 use Rattle.sheet.specs.Encode.{wordBytes, written}
 use Rattle.translation.proofs.Writing.{writes-length}
-use Rattle.translation.proofs.Putting.{Putting, putting-start, putting-room, putting-next, putting-end}
+use Rattle.translation.proofs.Sheets.Putting.{Putting, putting-start, putting-room, putting-next, putting-end}
 use Rattle.translation.proofs.write.words.Statement.{statement}
 use Rattle.translation.proofs.write.words.Tie as tie
 

@@ -1,0 +1,9 @@
+-- Demand 2: the run's answer is that of the published definition.
+pub mod Traces
+pub mod Calls
+pub mod Broken
+pub mod Found
+pub mod Published
+pub mod Acceptance
+pub mod Exclusive
+pub mod Rows
