@@ -70,8 +70,8 @@ pub record Shown : Type 0 where
   pub calls : List Opened
   pub checkers : List Living
 
-abbrev pub opened : Call → Opened
-opened c = record { number = c .number; unit = c .unit }
+abbrev pub openCall : Call → Opened
+openCall c = record { number = c .number; unit = c .unit }
 
 -- By the definition: "one for each triple armed, by calls in order of entry, then in triple order, with call number, triple number and the values at entry"
 unfoldable pub armedRow : List Monitor.Armed → List Living
@@ -87,7 +87,7 @@ shownBySheet r =
       position = σ .position;
       main = σ .configuration .main;
       variables = σ .configuration .variables;
-      calls = map (λ (a : Monitor.Armed). opened (a .call)) (σ .calls);
+      calls = map (λ (a : Monitor.Armed). openCall (a .call)) (σ .calls);
       checkers = armedRow (σ .calls);
     }
 
@@ -107,7 +107,7 @@ shownIn answers σ =
       position = σ .position;
       main = σ .configuration .main;
       variables = σ .configuration .variables;
-      calls = map opened (σ .calls);
+      calls = map openCall (σ .calls);
       checkers = map (living (σ .calls)) (σ .checkers);
     }
 

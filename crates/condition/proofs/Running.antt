@@ -14,7 +14,7 @@ use Rattle.condition.specs.declared.ActionAnswer.the-variants as action
 use Rattle.condition.specs.Tree.{Assignment}
 use Rattle.condition.specs.Parse.{Parsed, malformed, parsed, one, assignmentFrom, prefixed, thenRun, runFrom, parseAction}
 use Rattle.condition.specs.Meaning.{Environment, environment, lent, word, assigned, performed}
-use Rattle.condition.specs.Answer.{Outcome, judged, runOutcome, actionPaper, whether}
+use Rattle.condition.specs.Answer.{Evaluation, judged, runOutcome, actionPaper, whether}
 use Rattle.condition.specs.Walk.{Ends, Skips, Gives, valueReader, EvaluatesValue, SkipsAssignment, Assigns}
 use Rattle.condition.proofs.Walking.{open-at, ends-one}
 use Rattle.condition.proofs.Evaluating.{gives-one, gives-any}
@@ -115,7 +115,7 @@ module _ (programs : List ℕ) (count : ℕ) (kept : List ℕ) where
   abbrev pub upon : List ℕ → Environment
   upon l = environment programs (take count l) kept
 
-  abbrev pub outcome-upon : List ℕ → Option (List Assignment) → Outcome (List ℕ)
+  abbrev pub outcome-upon : List ℕ → Option (List Assignment) → Evaluation (List ℕ)
   outcome-upon l o = judged o (λ a. performed a (upon l))
 
   pub record Carried (s : List ℕ) (at : ℕ) (before present : List ℕ) : Type 0 where

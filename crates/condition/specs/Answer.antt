@@ -17,9 +17,9 @@ use Rattle.condition.specs.Parse.{Parsed, malformed, parsed, conditionFr
 use Rattle.condition.specs.Meaning.{Environment, lent, holds, word, performed}
 
 -- What the paper answers: the number of a refusal, or what is given.
-pub data Outcome (A : Type 0) : Type 0 where
-  refused : ℕ → Outcome A
-  given : A → Outcome A
+pub data Evaluation (A : Type 0) : Type 0 where
+  refused : ℕ → Evaluation A
+  given : A → Evaluation A
 
 -- "conditions of 1 to 1,024 bytes, and the evaluator takes the same lengths": the most bytes of a condition or a value
 abbrev pub longest : ℕ
@@ -36,15 +36,15 @@ abbrev pub actionSized : List ℕ → Bool
 actionSized s = leb (length s) longestAction
 
 -- "5 if the bytes aren't exactly one by the grammar or name a value that isn't lent. Otherwise it gives the value"
-abbrev pub judged : {A B : Type 0} → Option A → (A → B) → Outcome B
+abbrev pub judged : {A B : Type 0} → Option A → (A → B) → Evaluation B
 judged none f = refused 5
 judged (some a) f = given (f a)
 
 -- "4 if its length isn't" one of these; "then 5"
-unfoldable pub conditionOutcome : List ℕ → Environment → Outcome Bool
+unfoldable pub conditionOutcome : List ℕ → Environment → Evaluation Bool
 conditionOutcome s E = cond (sized s) (judged (parseCondition (lent E) s) (λ c. holds c E)) (refused 4)
 
-unfoldable pub valueOutcome : List ℕ → Environment → Outcome ℕ
+unfoldable pub valueOutcome : List ℕ → Environment → Evaluation ℕ
 valueOutcome s E = cond (sized s) (judged (parseValue (lent E) s) (λ e. word e E)) (refused 4)
 
 -- What was found at the front of some bytes is a condition, and holds.
@@ -57,23 +57,23 @@ unfoldable pub holdsFrom : List ℕ → ℕ → Environment → Bool
 holdsFrom s at E = leb (length s) 65535 && truthOf E (conditionFrom (length s) (lent E) (drop at s))
 
 -- The same of an action, which may be empty: the monitor variables afterwards.
-unfoldable pub runOutcome : List ℕ → Environment → Outcome (List ℕ)
+unfoldable pub runOutcome : List ℕ → Environment → Evaluation (List ℕ)
 runOutcome s E = judged (parseAction (lent E) s) (λ a. performed a E)
 
-unfoldable pub actionOutcome : List ℕ → Environment → Outcome (List ℕ)
+unfoldable pub actionOutcome : List ℕ → Environment → Evaluation (List ℕ)
 actionOutcome s E = cond (actionSized s) (runOutcome s E) (refused 4)
 
 -- The paper's number and value for each case of the answers.
-abbrev pub conditionPaper : ConditionAnswer → Outcome Bool
+abbrev pub conditionPaper : ConditionAnswer → Evaluation Bool
 conditionPaper (condition.Is b) = given b
 conditionPaper (condition.Refused n) = refused n
 
-abbrev pub valuePaper : ValueAnswer → Outcome ℕ
+abbrev pub valuePaper : ValueAnswer → Evaluation ℕ
 valuePaper (value.Is w) = given w
 valuePaper (value.Refused n) = refused n
 
 -- Of four variables the first are the action's: those it leaves come back, and on a refusal all of them.
-abbrev pub actionPaper : ℕ → List ℕ → Outcome (List ℕ) → Performed
+abbrev pub actionPaper : ℕ → List ℕ → Evaluation (List ℕ) → Performed
 actionPaper count variables (refused n) = record { answer = action.Refused n; variables = variables }
 actionPaper count variables (given l) = record { answer = action.Done; variables = l ++ drop count variables }
 

@@ -6,14 +6,14 @@ use Prim.Native.Nat.{ℕ}
 use lib.IntN.{ℤ, pos, negsuc}
 use Rattle.condition.specs.Word.{signed}
 use Rattle.condition.specs.Meaning.{environment}
-use Rattle.condition.specs.Answer.{Outcome, refused, given, conditionOutcome, valueOutcome}
+use Rattle.condition.specs.Answer.{Evaluation, refused, given, conditionOutcome, valueOutcome}
 
 -- The bytes of a condition and whether it holds, or of a value and how it reads as signed. No value is lent.
 pub data Row : Type 0 where
   condition : List ℕ → Bool → Row
   value : List ℕ → ℤ → Row
 
-abbrev pub reading : Outcome ℕ → Outcome ℤ
+abbrev pub reading : Evaluation ℕ → Evaluation ℤ
 reading (refused n) = refused n
 reading (given w) = given (signed w)
 

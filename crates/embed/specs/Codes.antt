@@ -4,7 +4,7 @@ use Prim.Native.Nat.{ℕ}
 use Rattle.step.specs.declared.Cause.{Cause}
 use Rattle.step.specs.declared.RunAnswer.{RunAnswer}
 use Rattle.step.specs.declared.RunAnswer.the-variants.{Violated, Clean, Refused, RefusedAt}
-use Rattle.step.specs.Verdicts.{stateIn, tripleIn}
+use Rattle.step.specs.Verdicts.{causeState, causeTriple}
 use Rattle.translation.specs.declared.Translated.{Translated}
 use Rattle.translation.specs.declared.Translated.the-variants as translated
 
@@ -14,10 +14,10 @@ orNone none = 256
 orNone (some n) = n
 
 abbrev pub stateOf : Cause → ℕ
-stateOf c = orNone (stateIn c)
+stateOf c = orNone (causeState c)
 
 abbrev pub tripleOf : Cause → ℕ
-tripleOf c = orNone (tripleIn c)
+tripleOf c = orNone (causeTriple c)
 
 -- What running a log answers: 0 clean, 1 violated, 2 refused, 3 an event refused.
 abbrev pub codeOf : RunAnswer → ℕ

@@ -13,7 +13,7 @@ use Rattle.sheet.specs.Table.{fit}
 use Rattle.sheet.specs.Log.{Event}
 use Rattle.step.specs.Lists.{first, keep, placeOf}
 use Rattle.step.specs.Calls.{lastPosition}
-use Rattle.step.specs.Verdicts.{isJudged, verdictFor, outcomeOf, verdictIn}
+use Rattle.step.specs.Verdicts.{isJudged, verdict, outcomeOf, verdictIn}
 use Rattle.step.specs.Runs.{Offered, offered}
 use Rattle.step.specs.Walk.{leastOf, numberIn}
 use Rattle.engine.specs.declared.Running.{Running}
@@ -97,7 +97,7 @@ refusalIn p r row g at =
 
 -- what stands beside the calls and variables after an event, for the lowest number that fails
 abbrev pub runAfter : List ℕ → ℕ → ℕ → ℕ → ℕ → Running
-runAfter p position main opened low = record { main = main; opened = opened; position = position + 1; outcome = outcomeOf (verdictFor (badIn p) (position + 1) main (numberIn low)) }
+runAfter p position main opened low = record { main = main; opened = opened; position = position + 1; outcome = outcomeOf (verdict (badIn p) (position + 1) main (numberIn low)) }
 
 -- the row with a call behind the others: its number and unit, its values, and what is armed for it
 unfoldable pub rowWith : List ℕ → ℕ → ℕ → ℕ → List ℕ → List ℕ → List ℕ

@@ -6,7 +6,7 @@ use Prim.Native.Nat.{ℕ, zero, suc, _+_, _/_, _%_}
 use lib.Dec.{ltb}
 use Rattle.step.specs.declared.RunAnswer.{RunAnswer}
 use Rattle.step.specs.declared.RunAnswer.the-variants.{Violated, Clean, Refused, RefusedAt}
-use Rattle.step.specs.Verdicts.{stateIn, tripleIn}
+use Rattle.step.specs.Verdicts.{causeState, causeTriple}
 
 -- A number in decimal, without zeros in front: its last digit behind the rest. The first argument bounds how many digits there can be.
 abbrev pub digit : ℕ → ℕ
@@ -56,7 +56,7 @@ tooLong = 116 ∷ 111 ∷ 111 ∷ 32 ∷ 108 ∷ 111 ∷ 110 ∷ 103 ∷ 10 ∷ 
 
 -- "`violated N state S triple T` (position; `-` for none), `clean N state S open K` (events, main state, open calls), `refused N`, or `refused N at R`"
 unfoldable pub line : RunAnswer → List ℕ
-line (Violated v) = violatedText ++ (decimal (v .position) ++ (stateText ++ (orDash (stateIn (v .cause)) ++ (tripleText ++ (orDash (tripleIn (v .cause)) ++ newline)))))
+line (Violated v) = violatedText ++ (decimal (v .position) ++ (stateText ++ (orDash (causeState (v .cause)) ++ (tripleText ++ (orDash (causeTriple (v .cause)) ++ newline)))))
 line (Clean n q k) = cleanText ++ (decimal n ++ (stateText ++ (decimal q ++ (openText ++ (decimal k ++ newline)))))
 line (Refused n) = refusedText ++ (decimal n ++ newline)
 line (RefusedAt n r) = refusedText ++ (decimal n ++ (atText ++ (decimal r ++ newline)))

@@ -11,7 +11,7 @@ use Rattle.sheet.specs.Decode.{sheetOf}
 use Rattle.sheet.specs.Log.{Event, eventsOf}
 use Rattle.step.specs.declared.Verdict.{Verdict}
 use Rattle.step.specs.declared.RunAnswer.the-variants as answer
-use Rattle.step.specs.Verdicts.{badState, stateIn, tripleIn}
+use Rattle.step.specs.Verdicts.{badState, causeState, causeTriple}
 use Rattle.step.specs.Runs.{violated, clean, refusedAt}
 use Rattle.monitor.specs.Monitor.{State, fresh, refusal, offer, run}
 use Rattle.monitor.specs.Published.{reached, Breaks, Counterexample}
@@ -36,8 +36,8 @@ Clear S w = (u v : List Event) → w ≡ u ++ v → Counterexample S u → ⊥
 pub record Finds (S : Sheet) (w : List Event) (v : Verdict) : Type 0 where
   pub counterexample : Counterexample S w
   pub position : v .position ≡ length w
-  pub state : stateIn (v .cause) ≡ badState (S .common .bad) (reached S w .main)
-  pub triple : Lowest S w (tripleIn (v .cause))
+  pub state : causeState (v .cause) ≡ badState (S .common .bad) (reached S w .main)
+  pub triple : Lowest S w (causeTriple (v .cause))
 
 -- The events before the last of some prefix are taken, with no counterexample among their prefixes; the next one is taken too and makes a counterexample; and
 -- the verdict is that counterexample's.

@@ -63,7 +63,7 @@ entered S σ e =
       configuration = to;
       calls = σ .calls ++ record { call = record { number = e .number; unit = e .unit; kept = e .values }; armed = armedBy S (σ .configuration) e } ∷ [];
       position = σ .position + 1;
-      verdict = verdict (S .common) (σ .position + 1) (to .main) none;
+      verdict = verdict (S .common .bad) (σ .position + 1) (to .main) none;
     }
 
 -- an exit: "every triple armed for this call ..; the call's place is then free"
@@ -74,7 +74,7 @@ exited S σ e =
       configuration = to;
       calls = keep (λ a. not (ofNumber (e .number) a)) (σ .calls);
       position = σ .position + 1;
-      verdict = verdict (S .common) (σ .position + 1) (to .main) (failing S (σ .configuration) e (first (ofNumber (e .number)) (σ .calls)));
+      verdict = verdict (S .common .bad) (σ .position + 1) (to .main) (failing S (σ .configuration) e (first (ofNumber (e .number)) (σ .calls)));
     }
 
 -- the lowest of refusals 10 to 15, or 0

@@ -46,14 +46,14 @@ pad σ =
     }
 
 -- What a state shows: of a call the first P kept values and the triples armed; the first V variables and the first `opened` calls.
-abbrev pub shown : ℕ → Call → Arms → Armed
-shown programs c a = record { call = unpad programs c; armed = take (a .count) (a .triples) }
+abbrev pub unpadArmed : ℕ → Call → Arms → Armed
+unpadArmed programs c a = record { call = unpad programs c; armed = take (a .count) (a .triples) }
 
 unfoldable pub view : Sheet → WatchState → State
 view S w =
     record {
       configuration = record { main = w .main; variables = take (S .common .monitors) (w .variables) };
-      calls = beside (shown (S .common .programs)) (take (w .opened) (w .calls)) (take (w .opened) (w .arms));
+      calls = beside (unpadArmed (S .common .programs)) (take (w .opened) (w .calls)) (take (w .opened) (w .arms));
       position = w .position;
       verdict = verdictIn (w .outcome);
     }

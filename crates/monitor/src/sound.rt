@@ -12,7 +12,7 @@ ghost use Rattle.sheet.specs.Answer.{headerOf};
 ghost use Rattle.step.specs.Lists.{beside};
 ghost use Rattle.step.specs.Padding.{clear};
 ghost use Rattle.monitor.specs.Sound.{rising, callSound};
-ghost use Rattle.monitor.specs.Padded.{shown, isZeroArms, tidyArms, soundState};
+ghost use Rattle.monitor.specs.Padded.{unpadArmed, isZeroArms, tidyArms, soundState};
 ghost use Rattle.monitor.specs.Walk.{tablesOf, tripleAt};
 use crate::Arms;
 use crate::WatchState;
@@ -116,7 +116,7 @@ fn triples_clear(triples: [u8; 4], from: usize) -> bool
 // Whether each of the first `opened` calls is sound with what is armed for it.
 fn calls_sound(s: &[u8], t: Tables, calls: [Call; 16], arms: [Arms; 16], opened: usize) -> bool
     requires { ⌜ (reading sheetLayout (now s) ≡ 0) × (t ≡ tablesOf (now s)) ⌝ }
-    ensures { λ r. ⌜ r ≡ every (callSound (sheetOf (now (s .entry)))) (beside (shown (t .header .programs)) (take opened calls) (take opened arms)) ⌝ }
+    ensures { λ r. ⌜ r ≡ every (callSound (sheetOf (now (s .entry)))) (beside (unpadArmed (t .header .programs)) (take opened calls) (take opened arms)) ⌝ }
 {
     let mut i = 0;
     while i < opened {
@@ -134,7 +134,7 @@ fn calls_sound(s: &[u8], t: Tables, calls: [Call; 16], arms: [Arms; 16], opened:
 
 fn call_sound(s: &[u8], t: Tables, call: Call, arms: Arms) -> bool
     requires { ⌜ (reading sheetLayout (now s) ≡ 0) × (t ≡ tablesOf (now s)) ⌝ }
-    ensures { λ r. ⌜ r ≡ callSound (sheetOf (now (s .entry))) (shown (t .header .programs) call arms) ⌝ }
+    ensures { λ r. ⌜ r ≡ callSound (sheetOf (now (s .entry))) (unpadArmed (t .header .programs) call arms) ⌝ }
 {
     let h = t.header;
     let count = wide(arms.count);

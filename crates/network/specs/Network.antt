@@ -69,7 +69,7 @@ entered N σ e =
       calls = σ .calls ++ record { number = e .number; unit = e .unit; kept = e .values } ∷ [];
       checkers = σ .checkers ++ created N (σ .configuration) e;
       position = σ .position + 1;
-      verdict = verdict (N .common) (σ .position + 1) (to .main) none;
+      verdict = verdict (N .common .bad) (σ .position + 1) (to .main) none;
     }
 
 -- at this call's exit a checker "ends"
@@ -81,7 +81,7 @@ exited N σ e =
       calls = keep (λ c. not (ofNumber (e .number) c)) (σ .calls);
       checkers = keep (λ h. not (boundTo (e .number) h)) (σ .checkers);
       position = σ .position + 1;
-      verdict = verdict (N .common) (σ .position + 1) (to .main) (failing N (σ .configuration) e (σ .checkers) (first (ofNumber (e .number)) (σ .calls)));
+      verdict = verdict (N .common .bad) (σ .position + 1) (to .main) (failing N (σ .configuration) e (σ .checkers) (first (ofNumber (e .number)) (σ .calls)));
     }
 
 -- "Order, refusals and verdict are as above": the lowest of refusals 10 to 15, or 0

@@ -12,17 +12,17 @@ use Rattle.condition.specs.declared.Lent.{Lent}
 use Rattle.condition.specs.Tree.{Condition, Assignment, conditionNames, actionNames, isAtEntry}
 use Rattle.condition.specs.Parse.{parseCondition, parseAction}
 use Rattle.condition.specs.Meaning.{Environment, environment, lent, holds, performed}
-use Rattle.condition.specs.Answer.{sized, actionSized, whether, conditionWhich, actionWhich, conditionOutcome, actionOutcome, runOutcome, actionPaper}
+use Rattle.condition.specs.Answer.{sized, actionSized, whether, conditionWhich, actionWhich, actionOutcome, runOutcome, actionPaper}
 use Rattle.condition.proofs.Naming.{unkept, entry-narrow, action-entry-narrow}
 use Rattle.sheet.specs.declared.Transition.{Transition}
 use Rattle.sheet.specs.Parts.{Paired}
 use Rattle.sheet.specs.Decode.{wide, transitionOf, commonOf}
 use Rattle.sheet.specs.Reading.{Layout, lentIn, conditionIn, namesEntry, transitionsOf, lastOf}
-use Rattle.sheet.proofs.Placed.{conditionPlaces, actionPlaces, condition-there, action-there}
+use Rattle.sheet.proofs.Placed.{actionPlaces, action-there}
 use Rattle.sheet.proofs.Accepted.{Accepted, bounds, condition-formed, action-formed, action-entry}
 use Rattle.step.specs.Lists.{first}
 use Rattle.step.specs.Meets.{meets, acted, performedBy}
-use Rattle.step.specs.Walk.{trueOf, meetsAt, actedAt}
+use Rattle.step.specs.Walk.{actedAt}
 
 -- A text of the right size that parses to a tree.
 record Reads (L : Lent) (t : List ℕ) (c : Condition) : Type 0 where
@@ -74,13 +74,8 @@ module _ {L : Lent} {t : List ℕ} {r : List Assignment} (g : Runs L t r) where
   run-meant : (E : Environment) → performedBy (parseAction L t) E ≡ performed r E
   run-meant E = rw (g .tree)
 
--- A condition of accepted bytes: what the operation answers is what Meets says, for a transition's condition, a precondition and a postcondition.
+-- A condition of accepted bytes, by its number.
 module _ {T R : Type 0} {F : Layout T R} {s : List ℕ} (a : Accepted F s) (few : F .conditions (wide s) ≤ 161) (i : ℕ) (h : i < length (commonOf s .conditions)) where
-  by-number : (E : Environment) (b : Bool) → trueOf (conditionOutcome (conditionIn (commonOf s) i) E) ≡ b → meetsAt s (conditionPlaces s) i E ≡ b
-  by-number E b e =
-      let most = bounds a .conditions in
-      rw (lt-ltb i 161 (omega arith), condition-there a i few h) e
-
   there : (c : Condition) × Reads (lentIn (commonOf s)) (conditionIn (commonOf s) i) c
   there = reads (lentIn (commonOf s)) (conditionIn (commonOf s) i) (condition-formed (commonOf s) (a .formed) i)
 

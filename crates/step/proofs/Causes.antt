@@ -14,18 +14,18 @@ use Rattle.step.specs.declared.Cause.the-variants as cause
 use Rattle.step.specs.declared.Verdict.{Verdict}
 use Rattle.step.specs.declared.Outcome.{Outcome}
 use Rattle.step.specs.declared.Outcome.the-variants.{Open, Judged}
-use Rattle.step.specs.Verdicts.{causeOf, placed, badState, verdictFor, verdict, stateIn, tripleIn, ifThere, verdictFits, outcomeOf, verdictIn}
+use Rattle.step.specs.Verdicts.{causeOf, placed, badState, verdict, causeState, causeTriple, ifThere, verdictFits, outcomeOf, verdictIn}
 use Rattle.step.specs.Walk.{numberIn}
 use Rattle.step.proofs.Lists.{none-some}
 
 -- a cause is the one of its state and its triple
-pub cause-is : (c : Cause) → causeOf (stateIn c) (tripleIn c) ≡ some c
+pub cause-is : (c : Cause) → causeOf (causeState c) (causeTriple c) ≡ some c
 cause-is (cause.BadState q) = refl
 cause-is (cause.Triple t) = refl
 cause-is (cause.Both q t) = refl
 
 -- so position, state and triple settle a verdict
-pub verdict-same : (u v : Verdict) → u .position ≡ v .position → stateIn (u .cause) ≡ stateIn (v .cause) → tripleIn (u .cause) ≡ tripleIn (v .cause) → u ≡ v
+pub verdict-same : (u v : Verdict) → u .position ≡ v .position → causeState (u .cause) ≡ causeState (v .cause) → causeTriple (u .cause) ≡ causeTriple (v .cause) → u ≡ v
 verdict-same u v p q r =
     let s : some (u .cause) ≡ some (v .cause) = sym (cause-is (u .cause)) ∙ rw (q, r) (cause-is (v .cause)) in
     let c : u .cause ≡ v .cause = cc in
@@ -38,28 +38,26 @@ module _ (C : Common) (position main : ℕ) where
   none-step false none e = (refl, refl)
   none-step false (some i) e = absurd (none-some (sym e))
 
-  pub verdict-none : (t : Option ℕ) → verdict C position main t ≡ none → (isBad (C .bad) main ≡ false) × (t ≡ none)
-  unfolding verdict
+  pub verdict-none : (t : Option ℕ) → verdict (C .bad) position main t ≡ none → (isBad (C .bad) main ≡ false) × (t ≡ none)
   verdict-none t e = none-step (isBad (C .bad) main) t e
 
   placed-some : (c : Cause) (v : Verdict) → placed position (some c) ≡ some v → (v .position ≡ position) × (v .cause ≡ c)
   placed-some c v e = (cc, cc)
 
   some-step : (b : Bool) (t : Option ℕ) (v : Verdict) → placed position (causeOf (cond b (some main) none) t) ≡ some v
-      → (v .position ≡ position) × (stateIn (v .cause) ≡ cond b (some main) none) × (tripleIn (v .cause) ≡ t) × ((b ≡ true) ⊎ ((i : ℕ) × (t ≡ some i)))
+      → (v .position ≡ position) × (causeState (v .cause) ≡ cond b (some main) none) × (causeTriple (v .cause) ≡ t) × ((b ≡ true) ⊎ ((i : ℕ) × (t ≡ some i)))
   some-step true none v e = let (p, q) = placed-some (cause.BadState main) v e in (p, rw q, rw q, inl refl)
   some-step true (some i) v e = let (p, q) = placed-some (cause.Both main i) v e in (p, rw q, rw q, inl refl)
   some-step false none v e = absurd (none-some e)
   some-step false (some i) v e = let (p, q) = placed-some (cause.Triple i) v e in (p, rw q, rw q, inr (i, refl))
 
-  pub verdict-some : (t : Option ℕ) (v : Verdict) → verdict C position main t ≡ some v
-      → (v .position ≡ position) × (stateIn (v .cause) ≡ badState (C .bad) main) × (tripleIn (v .cause) ≡ t) × ((isBad (C .bad) main ≡ true) ⊎ ((i : ℕ) × (t ≡ some i)))
-  unfolding verdict
+  pub verdict-some : (t : Option ℕ) (v : Verdict) → verdict (C .bad) position main t ≡ some v
+      → (v .position ≡ position) × (causeState (v .cause) ≡ badState (C .bad) main) × (causeTriple (v .cause) ≡ t) × ((isBad (C .bad) main ≡ true) ⊎ ((i : ℕ) × (t ≡ some i)))
   verdict-some t v e = some-step (isBad (C .bad) main) t v e
 
 -- whether a cause is sound, by its case
 abbrev causeFits : ℕ → ℕ → ℕ → Cause → Bool
-causeFits bad triples main c = ifThere (stateIn c) (λ q. eqb q main && isBad bad q) && ifThere (tripleIn c) (λ t. ltb t triples)
+causeFits bad triples main c = ifThere (causeState c) (λ q. eqb q main && isBad bad q) && ifThere (causeTriple c) (λ t. ltb t triples)
 
 module _ (bad triples main : ℕ) (c : Cause) where
   pub fits-state : (q : ℕ) → c ≡ cause.BadState q → (b : Bool) → b ≡ isBad bad q → (eqb q main && b) ≡ causeFits bad triples main c
@@ -82,15 +80,15 @@ module _ (bad triples main position : ℕ) (o : Outcome) where
 -- the outcome, by whether the state is bad and whether a triple fails
 module _ (bad position main lowest : ℕ) (b : Bool) (e : b ≡ isBad bad main) where
   module _ (h : lowest < 256) where
-    pub outcome-both : b ≡ true → Judged (record { position = position; cause = cause.Both main lowest }) ≡ outcomeOf (verdictFor bad position main (numberIn lowest))
+    pub outcome-both : b ≡ true → Judged (record { position = position; cause = cause.Both main lowest }) ≡ outcomeOf (verdict bad position main (numberIn lowest))
     outcome-both t = rw (lt-ltb lowest 256 h, ← e, t)
 
-    pub outcome-triple : b ≡ false → Judged (record { position = position; cause = cause.Triple lowest }) ≡ outcomeOf (verdictFor bad position main (numberIn lowest))
+    pub outcome-triple : b ≡ false → Judged (record { position = position; cause = cause.Triple lowest }) ≡ outcomeOf (verdict bad position main (numberIn lowest))
     outcome-triple t = rw (lt-ltb lowest 256 h, ← e, t)
 
   module _ (h : 256 ≤ lowest) where
-    pub outcome-state : b ≡ true → Judged (record { position = position; cause = cause.BadState main }) ≡ outcomeOf (verdictFor bad position main (numberIn lowest))
+    pub outcome-state : b ≡ true → Judged (record { position = position; cause = cause.BadState main }) ≡ outcomeOf (verdict bad position main (numberIn lowest))
     outcome-state t = rw (le-ltb lowest 256 h, ← e, t)
 
-    pub outcome-open : b ≡ false → Open ≡ outcomeOf (verdictFor bad position main (numberIn lowest))
+    pub outcome-open : b ≡ false → Open ≡ outcomeOf (verdict bad position main (numberIn lowest))
     outcome-open t = rw (le-ltb lowest 256 h, ← e, t)

@@ -19,7 +19,7 @@ use Rattle.sheet.proofs.Accepted.{Accepted, GoodTransition, sheet-transition, n
 use Rattle.step.specs.Lists.{first}
 use Rattle.step.specs.Meets.{acted, performedBy}
 use Rattle.step.specs.Moves.{Configuration, seen, enabled, after, moved}
-use Rattle.step.specs.Verdicts.{causeOf, placed, verdictFor, ifThere, verdictFits}
+use Rattle.step.specs.Verdicts.{causeOf, placed, verdict, ifThere, verdictFits}
 use Rattle.step.proofs.Lists.{Among, first-passes}
 use Rattle.step.proofs.Keeping.{among-at}
 use Rattle.step.proofs.Bridge.{noTransition, noPaired}
@@ -65,7 +65,7 @@ module _ (C : Common) (ts : List Transition) where
       go (some t) = length-acted (parseAction (lentIn C) (getD (C .actions) (t .action) [])) (seen e k)
 
 -- The verdict that an event brings, from a triple that exists.
-pub verdict-fits : (bad n main position : ℕ) (t : Option ℕ) → ifThere t (λ i. ltb i n) ≡ true → verdictFits bad n main position (verdictFor bad position main t) ≡ true
+pub verdict-fits : (bad n main position : ℕ) (t : Option ℕ) → ifThere t (λ i. ltb i n) ≡ true → verdictFits bad n main position (verdict bad position main t) ≡ true
 verdict-fits bad n main position t h = go (isBad bad main) refl t h
   where
     go : (b : Bool) → isBad bad main ≡ b → (o : Option ℕ) → ifThere o (λ i. ltb i n) ≡ true → verdictFits bad n main position (placed position (causeOf (cond b (some main) none) o)) ≡ true

@@ -1,44 +1,33 @@
 -- The refusals of an event, from the places of its call. Assumes nothing.
-use mathlib.Core.Path.{_≡_, refl, sym, ap, _∙_}
+use mathlib.Core.Path.{_≡_, refl, sym}
 use mathlib.Core.Logic.{_↔_}
 use mathlib.Core.Bool.{Bool, true, false, not, cond, _&&_, false≢true}
-use mathlib.Core.List.{List, map}
-use Prim.Native.Nat.{ℕ, min, _≤_, _<_}
-use native.Mathlib.Omega.{arith}
-use borrow.Author.Tests.{le-leb, lt-leb, leb-true, leb-false, eqb-false, eq-eqb, not-false}
-use lib.Dec.{leb, eqb}
-use lib.ListN.{length, take, length-take, length-map}
+use mathlib.Core.List.{List}
+use Prim.Native.Nat.{ℕ, _≤_, _<_}
+use borrow.Author.Tests.{leb-false, eqb-false, eq-eqb, not-false}
+use lib.Dec.{leb, ltb, eqb}
+use lib.ListN.{length}
 use Rattle.sheet.specs.Parts.{Common}
 use Rattle.sheet.specs.Log.{Event}
 use Rattle.sheet.proofs.Tables.{and-parts}
 use Rattle.sheet.proofs.Tests.{and-iff, leb-iff, eqb-iff}
 use Rattle.step.specs.declared.Call.{Call}
 use Rattle.step.specs.Calls as Calls
-use Rattle.step.specs.Calls.{isEntry, isExit, openNumber, openFor, mostCalls, lastPosition, refusalsFor, refusals, lowest}
-use Rattle.step.specs.Padding.{unpad}
-use Rattle.step.specs.Walk.{refusalBy}
+use Rattle.step.specs.Calls.{isEntry, isExit, openNumber, openFor, mostCalls, lastPosition, refusals, lowest}
 use Rattle.step.proofs.Keeping.{any-weaker}
 
-full-min : (m : ℕ) → leb 16 m ≡ leb 16 (min m 16)
-full-min m = go (leb 16 m) refl
-  where
-    go : (a : Bool) → leb 16 m ≡ a → a ≡ leb 16 (min m 16)
-    go true e = sym (le-leb 16 (min m 16) (omega (arith, leb-true 16 m e)))
-    go false e = sym (lt-leb 16 (min m 16) (omega (arith, leb-false 16 m e)))
-
-module _ (programs : ℕ) (calls : List Call) (opened : ℕ) (long : length calls ≡ 16) (number unit : ℕ) where
-  shown : length (take opened calls) ≡ min opened 16
-  shown = length-take opened calls ∙ ap (min opened) long
-
-  full-there : leb 16 opened ≡ leb 16 (length (map (unpad programs) (take opened calls)))
-  full-there = full-min opened ∙ sym (ap (leb 16) (length-map (take opened calls) (unpad programs) ∙ shown))
+-- the lowest of refusals 10 to 15 (Calls.refusals), by whether the event's number is open, sixteen calls are, and the number is open for its unit
+abbrev pub refusalBy : ℕ → ℕ → Bool → ℕ → Bool → Bool → Bool → Event → ℕ
+refusalBy units programs judged position again full known e =
+    cond judged 10 (cond (not (leb (e .kind) 1 && (ltb (e .unit) units && eqb (length (e .values)) programs))) 11
+    (cond (eqb position lastPosition) 12 (cond (isEntry e && again) 13 (cond (isEntry e && full) 14 (cond (isExit e && not known) 15 0)))))
 
 -- What is asked of the open calls gives the refusals.
 pub refusal-asked :
-    (units programs : ℕ) (judged : Bool) (position : ℕ) (calls : List Calls.Call) (e : Event) (again full known : Bool) →
-    again ≡ openNumber (e .number) calls → full ≡ leb mostCalls (length calls) → known ≡ openFor e calls → refusalBy units programs judged position again full known e ≡ lowest (refusalsFor units programs judged position calls e)
-unfolding lowest
-refusal-asked units programs judged position calls e again full known ea ef ek = rw (ea, ef, ek)
+    (C : Common) (judged : Bool) (position : ℕ) (calls : List Calls.Call) (e : Event) (again full known : Bool) →
+    again ≡ openNumber (e .number) calls → full ≡ leb mostCalls (length calls) → known ≡ openFor e calls → refusalBy (C .units) (C .programs) judged position again full known e ≡ lowest (refusals C judged position calls e)
+unfolding lowest refusals
+refusal-asked C judged position calls e again full known ea ef ek = rw (ea, ef, ek)
 
 -- An event that is refused for no reason, with or without a verdict, at a position, with some calls open.
 pub record Free (C : Common) (judged : Bool) (position : ℕ) (calls : List Calls.Call) (e : Event) : Type 0 where

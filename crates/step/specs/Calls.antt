@@ -41,18 +41,15 @@ pub record Refusal : Type 0 where
 
 -- "10: it has a verdict; 11: kind over 1, unit not below U, or not P values; 12: position is 4,294,967,295; 13: entry, number open; 14: entry,
 -- 16 open; 15: exit, number not open or open for another unit"
-abbrev pub refusalsFor : ℕ → ℕ → Bool → ℕ → List Call → Event → List Refusal
-refusalsFor units programs judged position calls e =
+unfoldable pub refusals : Common → Bool → ℕ → List Call → Event → List Refusal
+refusals C judged position calls e =
     record { applies = judged; number = 10 }
-    ∷ record { applies = not (leb (e .kind) 1 && (ltb (e .unit) units && eqb (length (e .values)) programs)); number = 11 }
+    ∷ record { applies = not (leb (e .kind) 1 && (ltb (e .unit) (C .units) && eqb (length (e .values)) (C .programs))); number = 11 }
     ∷ record { applies = eqb position lastPosition; number = 12 }
     ∷ record { applies = isEntry e && openNumber (e .number) calls; number = 13 }
     ∷ record { applies = isEntry e && leb mostCalls (length calls); number = 14 }
     ∷ record { applies = isExit e && not (openFor e calls); number = 15 }
     ∷ []
-
-unfoldable pub refusals : Common → Bool → ℕ → List Call → Event → List Refusal
-refusals C judged position calls e = refusalsFor (C .units) (C .programs) judged position calls e
 
 -- "refused with the lowest"; 0 for none
 unfoldable pub lowest : List Refusal → ℕ

@@ -3,7 +3,6 @@ use mathlib.Core.Bool.{Bool, true, false, not, cond, _&&_}
 use mathlib.Core.Option.{Option, none, some}
 use Prim.Native.Nat.{ℕ}
 use lib.Dec.{eqb, ltb}
-use Rattle.sheet.specs.Parts.{Common}
 use Rattle.sheet.specs.Reading.{isBad}
 use Rattle.step.specs.declared.Cause.{Cause}
 use Rattle.step.specs.declared.Cause.the-variants as cause
@@ -26,26 +25,23 @@ abbrev pub badState : ℕ → ℕ → Option ℕ
 badState bad q = cond (isBad bad q) (some q) none
 
 -- "A verdict is complete at an event if the new state is bad or an armed postcondition fails. It holds the event's position"
-abbrev pub verdictFor : ℕ → ℕ → ℕ → Option ℕ → Option Verdict
-verdictFor bad position main triple = placed position (causeOf (badState bad main) triple)
-
-unfoldable pub verdict : Common → ℕ → ℕ → Option ℕ → Option Verdict
-verdict C position main triple = verdictFor (C .bad) position main triple
+abbrev pub verdict : ℕ → ℕ → ℕ → Option ℕ → Option Verdict
+verdict bad position main triple = placed position (causeOf (badState bad main) triple)
 
 abbrev pub isJudged : Option Verdict → Bool
 isJudged none = false
 isJudged (some v) = true
 
 -- The paper's state and triple for each case of a cause.
-abbrev pub stateIn : Cause → Option ℕ
-stateIn (cause.BadState q) = some q
-stateIn (cause.Triple t) = none
-stateIn (cause.Both q t) = some q
+abbrev pub causeState : Cause → Option ℕ
+causeState (cause.BadState q) = some q
+causeState (cause.Triple t) = none
+causeState (cause.Both q t) = some q
 
-abbrev pub tripleIn : Cause → Option ℕ
-tripleIn (cause.BadState q) = none
-tripleIn (cause.Triple t) = some t
-tripleIn (cause.Both q t) = some t
+abbrev pub causeTriple : Cause → Option ℕ
+causeTriple (cause.BadState q) = none
+causeTriple (cause.Triple t) = some t
+causeTriple (cause.Both q t) = some t
 
 abbrev pub ifThere : Option ℕ → (ℕ → Bool) → Bool
 ifThere none p = true
@@ -56,7 +52,7 @@ ifThere (some n) p = p n
 abbrev pub verdictFits : ℕ → ℕ → ℕ → ℕ → Option Verdict → Bool
 verdictFits bad triples main position none = not (isBad bad main)
 verdictFits bad triples main position (some v) =
-    eqb (v .position) position && (ifThere (stateIn (v .cause)) (λ q. eqb q main && isBad bad q) && ifThere (tripleIn (v .cause)) (λ t. ltb t triples))
+    eqb (v .position) position && (ifThere (causeState (v .cause)) (λ q. eqb q main && isBad bad q) && ifThere (causeTriple (v .cause)) (λ t. ltb t triples))
 
 -- a verdict as a state holds it
 abbrev pub outcomeOf : Option Verdict → Outcome

@@ -3,7 +3,7 @@
 ghost use mathlib.Core.Path.{_≡_};
 ghost use mathlib.Core.Bool.{_&&_};
 ghost use lib.Dec.{eqb, ltb};
-ghost use Rattle.step.specs.Verdicts.{ifThere, stateIn, tripleIn, verdictFor, verdictFits, isJudged, outcomeOf, verdictIn};
+ghost use Rattle.step.specs.Verdicts.{ifThere, causeState, causeTriple, verdict, verdictFits, isJudged, outcomeOf, verdictIn};
 ghost use Rattle.step.specs.Walk.{numberIn};
 ghost use Rattle.sheet.specs.Reading.{isBad};
 use crate::Cause;
@@ -13,7 +13,7 @@ use crate::Verdict;
 // The outcome of an event: at a position, for the bad states, the new main state, and the lowest
 // failing triple (256 or more for none).
 pub fn outcome(bad: u16, position: u32, main: u8, lowest: u16) -> Outcome
-    ensures { λ r. ⌜ r ≡ outcomeOf (verdictFor bad position main (numberIn lowest)) ⌝ }
+    ensures { λ r. ⌜ r ≡ outcomeOf (verdict bad position main (numberIn lowest)) ⌝ }
 {
     let is_bad = sheet::is_bad(bad, main);
     if lowest < 256 {
@@ -52,7 +52,7 @@ pub fn outcome_fits(bad: u16, triples: u8, main: u8, position: u32, outcome: Out
 }
 
 fn cause_fits(bad: u16, triples: u8, main: u8, cause: Cause) -> bool
-    ensures { λ r. ⌜ r ≡ (ifThere (stateIn cause) (λ q. eqb q main && isBad bad q) && ifThere (tripleIn cause) (λ t. ltb t triples)) ⌝ }
+    ensures { λ r. ⌜ r ≡ (ifThere (causeState cause) (λ q. eqb q main && isBad bad q) && ifThere (causeTriple cause) (λ t. ltb t triples)) ⌝ }
 {
     match cause {
         Cause::BadState(q) => (q == main) & sheet::is_bad(bad, q),

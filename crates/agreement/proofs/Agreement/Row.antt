@@ -16,7 +16,7 @@ use Rattle.monitor.specs.Monitor.{Armed}
 use Rattle.network.specs.Network.{ofNumber}
 use Rattle.network.specs.Grouped.{checker, rowOf, ungrouped}
 use Rattle.network.proofs.States.Created.{none-among}
-use Rattle.agreement.specs.Demand.{Living, opened, armedRow, keptBy, living, shownIn, shownBySheet}
+use Rattle.agreement.specs.Demand.{Living, openCall, armedRow, keptBy, living, shownIn, shownBySheet}
 
 -- Each call is the first of its number.
 first-own : (l : List Armed) → distinct (map (λ (a : Armed). a .call .number) l) ≡ true → (a : Armed) → Among a l → first (ofNumber (a .call .number)) (map (λ (a : Armed). a .call) l) ≡ some (a .call)
@@ -43,6 +43,6 @@ row-own l d = row-shown (map (λ (a : Armed). a .call) l) l (first-own l d)
 pub shown-same : (answers : List Answer) (σ : Monitor.State) → distinct (map (λ (a : Armed). a .call .number) (σ .calls)) ≡ true → shownIn answers (ungrouped σ) ≡ shownBySheet (record { answers = answers; state = σ })
 unfolding ungrouped shownBySheet
 shown-same answers σ d =
-    let calls = map-map opened (λ (a : Armed). a .call) (σ .calls) in
+    let calls = map-map openCall (λ (a : Armed). a .call) (σ .calls) in
     let row = row-own (σ .calls) d in
     λ i. record { answers = answers; verdict = σ .verdict; position = σ .position; main = σ .configuration .main; variables = σ .configuration .variables; calls = calls i; checkers = row i }

@@ -10,7 +10,7 @@ use Rattle.step.specs.Lists.{first, keep, least}
 use Rattle.step.specs.Meets.{meets}
 use Rattle.step.specs.Moves.{Configuration, moved}
 use Rattle.step.specs.Calls.{isEntry, refusals}
-use Rattle.step.specs.Verdicts.{verdict, verdictFor}
+use Rattle.step.specs.Verdicts.{verdict}
 use Rattle.step.specs.Runs.{Offered, Ran, offered, unlessJudged, unlessRefusedAt, runFrom}
 use Rattle.step.proofs.Keeping.{keep-same}
 use Rattle.step.proofs.Refusing.{free}
@@ -46,22 +46,22 @@ module _ {M N : Machine} (a : Alike M N) where
     failing-alike (some b) = ap least (keep-same (fails M k e (b .call)) (fails N k e (b .call)) (b .armed) (λ i m. ap not (a .judges i (environment (e .values) (k .variables) (b .call .kept)))))
 
     entered-alike : M .arming (σ .configuration) e ≡ N .arming (σ .configuration) e → entered M σ e ≡ entered N σ e
-    unfolding entered verdict
+    unfolding entered
     entered-alike arms =
         let to = a .moves k e in
         λ i. record {
           configuration = to i;
           calls = σ .calls ++ record { call = record { number = e .number; unit = e .unit; kept = e .values }; armed = arms i } ∷ [];
           position = σ .position + 1;
-          verdict = verdictFor (a .bad i) (σ .position + 1) (to i .main) none;
+          verdict = verdict (a .bad i) (σ .position + 1) (to i .main) none;
         }
 
     exited-alike : exited M σ e ≡ exited N σ e
-    unfolding exited verdict
+    unfolding exited
     exited-alike =
         let to = a .moves k e in
         let low = failing-alike (first (ofNumber (e .number)) (σ .calls)) in
-        λ i. record { configuration = to i; calls = keep (λ b. not (ofNumber (e .number) b)) (σ .calls); position = σ .position + 1; verdict = verdictFor (a .bad i) (σ .position + 1) (to i .main) (low i) }
+        λ i. record { configuration = to i; calls = keep (λ b. not (ofNumber (e .number) b)) (σ .calls); position = σ .position + 1; verdict = verdict (a .bad i) (σ .position + 1) (to i .main) (low i) }
 
     -- One event, in a state that is declared; an entry that is not refused is of a unit that is.
     pub offer-alike : σ .configuration .main < N .common .states → offer M σ e ≡ offer N σ e

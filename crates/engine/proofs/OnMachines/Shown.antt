@@ -17,13 +17,13 @@ use Rattle.sheet.proofs.Tests.{eqb-iff}
 use Rattle.step.specs.declared.Verdict.{Verdict}
 use Rattle.step.specs.Lists.{first, keep, any, least, distinct, placeOf}
 use Rattle.step.specs.Moves.{Configuration, seen, moved}
-use Rattle.step.specs.Calls.{Call, isEntry, lastPosition, refusalsFor, refusals, lowest}
-use Rattle.step.specs.Verdicts.{verdict, verdictFor, isJudged, verdictIn, outcomeOf}
+use Rattle.step.specs.Calls.{Call, isEntry, lastPosition, refusals, lowest}
+use Rattle.step.specs.Verdicts.{verdict, isJudged, verdictIn, outcomeOf}
 use Rattle.step.specs.Runs.{offered}
-use Rattle.step.specs.Walk.{numberIn, leastOf, refusalBy}
+use Rattle.step.specs.Walk.{numberIn, leastOf}
 use Rattle.step.proofs.Lists.{Among, any-map, first-passes, kept-passes}
 use Rattle.step.proofs.Moving.{moved-variables}
-use Rattle.step.proofs.Refusing.{refusal-asked, entry-room, exit-open}
+use Rattle.step.proofs.Refusing.{refusalBy, refusal-asked, entry-room, exit-open}
 use Rattle.step.proofs.Refusing as Refusing
 use Rattle.step.proofs.Rooms.{verdict-outcome, take-fitted, length-fit}
 use Rattle.step.proofs.Searching.{any-place}
@@ -130,8 +130,8 @@ module _ (M : Machine) (last : ℕ) (s p : List ℕ) (σ : Words) (e : Event) (c
   refusal-shown =
       let judged = isJudged (verdictIn (r .outcome)) in
       let calls = map (callOf P) (entries (r .opened) (σ .row)) in
-      let asked = refusal-asked (C .units) P judged (r .position) calls e _ _ _ (number-there P (r .opened) (σ .row) e place refl) (full-there P (r .opened) (σ .row) e place refl) (unit-there P (r .opened) (σ .row) e place refl apart) in
-      sym (refusal-forms p r (σ .row) e place) ∙ rw (c .units, c .programs) (asked ∙ ap (λ (l : List Call). lowest (refusalsFor (C .units) P judged (r .position) l e)) (sym (shown-calls C σ)))
+      let asked = refusal-asked C judged (r .position) calls e _ _ _ (number-there P (r .opened) (σ .row) e place refl) (full-there P (r .opened) (σ .row) e place refl) (unit-there P (r .opened) (σ .row) e place refl apart) in
+      sym (refusal-forms p r (σ .row) e place) ∙ rw (c .units, c .programs) (asked ∙ ap (λ (l : List Call). lowest (refusals C judged (r .position) l e)) (sym (shown-calls C σ)))
 
   module _ (z : refusal M (shownBy (M .common) σ) e ≡ 0) where
     free : Refusing.Free (M .common) (isJudged (shownBy (M .common) σ .verdict)) (shownBy (M .common) σ .position) (map (λ (a : Armed). a .call) (shownBy (M .common) σ .calls)) e
@@ -158,16 +158,16 @@ module _ (M : Machine) (last : ℕ) (s p : List ℕ) (σ : Words) (e : Event) (c
     shown-after : (t : ℕ) → t ≡ foundBy s p (heldBy (M .common) σ) e → (opened low : ℕ) (o : Option ℕ) → numberIn low ≡ o → (row : List ℕ) (calls : List Armed) → map (armedOf (M .common .programs)) (entries opened row) ≡ calls
         → shownBy (M .common) (words (runAfter p (σ .run .position) (mainAfter p t (σ .run .main)) opened low) row (variablesAfter s p t (eightOf e) (σ .variables)))
         ≡ stateOf (moved (M .common) (M .transitions) (heldBy (M .common) σ) e .main) (moved (M .common) (M .transitions) (heldBy (M .common) σ) e .variables) calls (σ .run .position + 1)
-        (verdict (M .common) (σ .run .position + 1) (moved (M .common) (M .transitions) (heldBy (M .common) σ) e .main) o)
-    unfolding shownBy verdict
+        (verdict (M .common .bad) (σ .run .position + 1) (moved (M .common) (M .transitions) (heldBy (M .common) σ) e .main) o)
+    unfolding shownBy
     shown-after t et opened low o el row calls ec =
         let main : mainAfter p t (r .main) ≡ to .main = ap (λ (i : ℕ). mainAfter p i (r .main)) et ∙ c .moves k e fits in
         let long : length (to .variables) ≡ C .monitors = moved-variables C (M .transitions) k e ∙ fits .variables in
         let variables : take (C .monitors) (variablesAfter s p t (eightOf e) (σ .variables)) ≡ to .variables =
         ap (λ (i : ℕ). take (C .monitors) (variablesAfter s p i (eightOf e) (σ .variables))) et ∙ ap (take (C .monitors)) (c .alters k e fits (σ .variables) refl) ∙ take-at (to .variables) _ (C .monitors) long in
-        let judged : ℕ → ℕ → Option ℕ → Option Verdict = λ bad main t. verdictFor bad (r .position + 1) main t in
-        let outcome : verdictIn (outcomeOf (verdictFor (badIn p) (r .position + 1) (mainAfter p t (r .main)) (numberIn low))) ≡ judged (C .bad) (to .main) o =
-        verdict-outcome (verdictFor (badIn p) (r .position + 1) (mainAfter p t (r .main)) (numberIn low)) ∙ (λ i. judged (c .bad i) (main i) (el i)) in
+        let judged : ℕ → ℕ → Option ℕ → Option Verdict = λ bad main t. verdict bad (r .position + 1) main t in
+        let outcome : verdictIn (outcomeOf (verdict (badIn p) (r .position + 1) (mainAfter p t (r .main)) (numberIn low))) ≡ judged (C .bad) (to .main) o =
+        verdict-outcome (verdict (badIn p) (r .position + 1) (mainAfter p t (r .main)) (numberIn low)) ∙ (λ i. judged (c .bad i) (main i) (el i)) in
         λ i. stateOf (main i) (variables i) (ec i) (r .position + 1) (outcome i)
 
     pub entered-shown : e .kind ≡ 0 → shownBy (M .common) (enteredIn s p σ (givenOf e) (eightOf e)) ≡ entered M (shownBy (M .common) σ) e

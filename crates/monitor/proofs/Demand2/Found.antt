@@ -25,24 +25,24 @@ use Rattle.monitor.proofs.Demand2.Broken.{Plain, brokenAt, lowest-broke
 module _ (S : Sheet) where
   verdict-step : (σ : State) (e : Event) (b : Bool)
       → cond b (entered S σ e) (exited S σ e) .verdict
-      ≡ verdict (S .common) (σ .position + 1) (stepped S (σ .configuration) e .main) (cond b none (failing S (σ .configuration) e (first (ofNumber (e .number)) (σ .calls))))
+      ≡ verdict (S .common .bad) (σ .position + 1) (stepped S (σ .configuration) e .main) (cond b none (failing S (σ .configuration) e (first (ofNumber (e .number)) (σ .calls))))
   unfolding entered exited
   verdict-step σ e true = refl
   verdict-step σ e false = refl
 
   -- the verdict at an event that is taken
   pub verdict-at : {w : List Event} {σ : State} → Taken S w σ → (e : Event) → refusal S σ e ≡ 0
-      → offer S σ e .state .verdict ≡ verdict (S .common) (length w + 1) (reached S (w ++ e ∷ []) .main) (brokenAt S σ e)
+      → offer S σ e .state .verdict ≡ verdict (S .common .bad) (length w + 1) (reached S (w ++ e ∷ []) .main) (brokenAt S σ e)
   verdict-at {w} {σ} t e h =
       let i = holds S t in
       ap (λ τ. τ .verdict) (offer-taken S σ e h) ∙ verdict-step σ e (isEntry e)
-      ∙ ap (λ p. verdict (S .common) (p + 1) (stepped S (σ .configuration) e .main) (brokenAt S σ e)) (i .position)
-      ∙ ap (λ k. verdict (S .common) (length w + 1) (k .main) (brokenAt S σ e)) (ap (λ k. stepped S k e) (i .configuration) ∙ sym (shift-snoc S (initial S) w e))
+      ∙ ap (λ p. verdict (S .common .bad) (p + 1) (stepped S (σ .configuration) e .main) (brokenAt S σ e)) (i .position)
+      ∙ ap (λ k. verdict (S .common .bad) (length w + 1) (k .main) (brokenAt S σ e)) (ap (λ k. stepped S k e) (i .configuration) ∙ sym (shift-snoc S (initial S) w e))
 
 module _ (S : Sheet) (plain : Plain S) where
   module _ {w : List Event} {σ : State} (t : Taken S w σ) (e : Event) (h : refusal S σ e ≡ 0) where
     -- The verdict at an event that is taken: of the state that the trace reaches and the lowest triple that it breaks.
-    pub event-verdict : (l : Option ℕ) × (offer S σ e .state .verdict ≡ verdict (S .common) (length w + 1) (reached S (w ++ e ∷ []) .main) l) × Lowest S (w ++ e ∷ []) l
+    pub event-verdict : (l : Option ℕ) × (offer S σ e .state .verdict ≡ verdict (S .common .bad) (length w + 1) (reached S (w ++ e ∷ []) .main) l) × Lowest S (w ++ e ∷ []) l
     event-verdict = (brokenAt S σ e, verdict-at S t e h, lowest-broken S plain t e h)
 
     -- A verdict is found if, and only if, the trace up to it is a counterexample.

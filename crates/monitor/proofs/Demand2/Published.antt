@@ -8,7 +8,7 @@ use lib.ListN.{length, length-append}
 use Rattle.sheet.specs.Parts.{Sheet}
 use Rattle.sheet.specs.Log.{Event}
 use Rattle.step.specs.declared.Verdict.{Verdict}
-use Rattle.step.specs.Verdicts.{tripleIn}
+use Rattle.step.specs.Verdicts.{causeTriple}
 use Rattle.step.specs.Runs.{Ran, violated, clean, refusedAt, runFrom}
 use Rattle.step.proofs.Causes.{verdict-same}
 use Rattle.step.proofs.Runs.{offered-answer, turn-refused, turn-judged, turn-on}
@@ -93,7 +93,7 @@ module _ (S : Sheet) (plain : Plain S) where
 
   pub finds-same : (w : List Event) (u v : Verdict) → Finds S w u → Finds S w v → u ≡ v
   finds-same w u v h k =
-      verdict-same u v (h .position ∙ sym (k .position)) (h .state ∙ sym (k .state)) (lowest-same w (tripleIn (u .cause)) (tripleIn (v .cause)) (h .triple) (k .triple))
+      verdict-same u v (h .position ∙ sym (k .position)) (h .state ∙ sym (k .state)) (lowest-same w (causeTriple (u .cause)) (causeTriple (v .cause)) (h .triple) (k .triple))
 
   module _ (es : List Event) where
     outcome-violated : (r : Ran State) (v : Verdict) → Outcome S es r → r ≡ violated v → Violated S es v

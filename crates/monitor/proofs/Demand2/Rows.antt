@@ -13,7 +13,6 @@ use Rattle.step.specs.Lists.{any, first, keep, numbers, least}
 use Rattle.step.specs.Meets.{meets, acted}
 use Rattle.step.specs.Moves.{enabled, moved}
 use Rattle.step.specs.Calls.{refusals, lowest}
-use Rattle.step.specs.Verdicts.{verdict}
 use Rattle.step.specs.Runs.{Ran, violated, clean, refusedAt, runFrom}
 use Rattle.step.specs.declared.Cause.the-variants as cause
 use Rattle.step.specs.declared.Verdict.{Verdict}
@@ -62,5 +61,5 @@ rows =
     ∷ []
 
 pub rows-hold : map (λ (r : Row). line (run (sheetOf sheetA) (eventsOf 2 (log (r .records))))) rows ≡ map (λ (r : Row). r .expected) rows
-unfolding run runFrom fresh offer refusal refusals lowest any first keep numbers least entered exited arms armedBy fails verdict moved enabled meets acted eventsOf recordsIn sheetOf commonOf conditionsAt actionsAt transitionsAt lastAt records extent bigEndian parseCondition parseAction conditionFrom valueFrom conditionOperator valueOperator literal numbered isLent performed holds word equalWord valueOf
+unfolding run runFrom fresh offer refusal refusals lowest any first keep numbers least entered exited arms armedBy fails moved enabled meets acted eventsOf recordsIn sheetOf commonOf conditionsAt actionsAt transitionsAt lastAt records extent bigEndian parseCondition parseAction conditionFrom valueFrom conditionOperator valueOperator literal numbered isLent performed holds word equalWord valueOf
 rows-hold = refl

@@ -39,7 +39,7 @@ unfolding Monitor.exited Machine.exited ofSheet
 exited-same S σ e =
     let to = moved (S .common) (S .transitions) (σ .configuration) e in
     let low = failing-same S (σ .configuration) e (first (Machine.ofNumber (e .number)) (σ .calls)) in
-    λ i. record { configuration = to; calls = keep (λ a. not (Machine.ofNumber (e .number) a)) (σ .calls); position = σ .position + 1; verdict = verdict (S .common) (σ .position + 1) (to .main) (low i) }
+    λ i. record { configuration = to; calls = keep (λ a. not (Machine.ofNumber (e .number) a)) (σ .calls); position = σ .position + 1; verdict = verdict (S .common .bad) (σ .position + 1) (to .main) (low i) }
 
 pub offer-same : (S : Sheet) (σ : Machine.State) (e : Event) → Monitor.offer S σ e ≡ Machine.offer (ofSheet S) σ e
 unfolding Monitor.offer Machine.offer

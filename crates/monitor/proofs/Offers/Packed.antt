@@ -48,7 +48,7 @@ use Rattle.monitor.specs.declared.Arms.{Arms}
 use Rattle.monitor.specs.declared.sound.Tables.{Tables}
 use Rattle.monitor.specs.declared.WatchState.{WatchState}
 use Rattle.monitor.specs.Monitor.{Armed, State, refusal, offer}
-use Rattle.monitor.specs.Padded.{zeroArms, shown, padArms, pad, view, tidyArms, tidy, soundState}
+use Rattle.monitor.specs.Padded.{zeroArms, unpadArmed, padArms, pad, view, tidyArms, tidy, soundState}
 use Rattle.monitor.specs.Packed.{runningOf, toNumbers, toTriples, callWords, unpacked}
 use Rattle.monitor.specs.Sound.{callSound, sound}
 use Rattle.monitor.specs.Walk.{tablesOf}
@@ -57,7 +57,7 @@ use Rattle.monitor.proofs.Offers.Answering.{offeredWith, offer-takes, o
 use Rattle.monitor.proofs.Offers.Machined.{offer-same}
 
 -- The words of a call show it.
-words-show : (P : ℕ) (c : Call) (a : Arms) → length (a .triples) ≡ 4 → length (c .kept) ≡ 8 → armedOf P (wordsOf c (toNumbers a)) ≡ shown P c a
+words-show : (P : ℕ) (c : Call) (a : Arms) → length (a .triples) ≡ 4 → length (c .kept) ≡ 8 → armedOf P (wordsOf c (toNumbers a)) ≡ unpadArmed P c a
 unfolding armedOf
 words-show P c a four eight =
     let numbers : take 4 (a .triples ++ 0 ∷ c .kept) ≡ a .triples = take-at (a .triples) (0 ∷ c .kept) 4 four in
@@ -66,7 +66,7 @@ words-show P c a four eight =
     λ i. record { call = record { number = c .number; unit = c .unit; kept = take P ((ap (take 8) rest ∙ kept) i) }; armed = take (a .count) (numbers i) }
 
 all-show : (P : ℕ) (l : List Call) (m : List Arms) → every (λ (c : Call). padded 8 P (c .kept)) l ≡ true → every tidyArms m ≡ true
-    → map (armedOf P) (beside (λ c a. wordsOf c (toNumbers a)) l m) ≡ beside (shown P) l m
+    → map (armedOf P) (beside (λ c a. wordsOf c (toNumbers a)) l m) ≡ beside (unpadArmed P) l m
 unfolding every beside
 all-show P [] m h k = refl
 all-show P (c ∷ l) [] h k = refl
@@ -134,13 +134,13 @@ unpacked-pad S σ τ e small =
 abbrev pub small : Call → Bool
 small c = ltb (c .number) 65536 && ltb (c .unit) 256
 
-all-narrow : (P : ℕ) (l : List Call) (m : List Arms) → every small l ≡ true → every (λ (a : Armed). every (λ i. ltb i 256) (a .armed)) (beside (shown P) l m) ≡ true → every narrow (beside (shown P) l m) ≡ true
+all-narrow : (P : ℕ) (l : List Call) (m : List Arms) → every small l ≡ true → every (λ (a : Armed). every (λ i. ltb i 256) (a .armed)) (beside (unpadArmed P) l m) ≡ true → every narrow (beside (unpadArmed P) l m) ≡ true
 unfolding every beside
 all-narrow P [] m h k = refl
 all-narrow P (c ∷ l) [] h k = refl
 all-narrow P (c ∷ l) (a ∷ m) h k =
     let ((n, u), r) = simp and-iff at h in
-    let (x, y) = and-parts (every (λ i. ltb i 256) (take (a .count) (a .triples))) (every (λ (a : Armed). every (λ i. ltb i 256) (a .armed)) (beside (shown P) l m)) k in
+    let (x, y) = and-parts (every (λ i. ltb i 256) (take (a .count) (a .triples))) (every (λ (a : Armed). every (λ i. ltb i 256) (a .armed)) (beside (unpadArmed P) l m)) k in
     and-both (and-both n (and-both u x)) (all-narrow P l m r y)
 
 view-narrow : (S : Sheet) (w : WatchState) → sound S (view S w) ≡ true → length (S .triples) ≤ 32 → every small (take (w .opened) (w .calls)) ≡ true → every narrow (view S w .calls) ≡ true

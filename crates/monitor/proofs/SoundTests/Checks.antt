@@ -25,7 +25,7 @@ use Rattle.monitor.specs.declared.sound.Tables.{Tables}
 use Rattle.monitor.specs.declared.WatchState.{WatchState}
 use Rattle.monitor.specs.Monitor.{Armed, tripleIn}
 use Rattle.monitor.specs.Sound.{rising, ofOneState, callSound, verdictSound, sound}
-use Rattle.monitor.specs.Padded.{shown, view, isZeroArms, tidyArms, tidy, soundState}
+use Rattle.monitor.specs.Padded.{unpadArmed, view, isZeroArms, tidyArms, tidy, soundState}
 use Rattle.monitor.specs.Walk.{tablesOf, tripleAt}
 use Rattle.monitor.proofs.SoundTests.Triples.{triple-there}
 use Rattle.monitor.proofs.States.Views.{length-beside, beside-left}
@@ -65,7 +65,7 @@ pub call-is : (s : List ℕ) (t : Tables) → (reading sheetLayout s ≡ 0) × (
     → (q : Bool) → (q ≡ ltb (call .unit) (t .header .units)) × (length (call .kept) ≡ 8) → (w : ℕ) → (w ≡ arms .count) × (w < 256) → (r : Bool) → r ≡ rising (take w (arms .triples))
     → (u : Bool) → u ≡ every (λ i. ltb i (t .header .last) && eqb (tripleAt s (t .triples) i .unit) (call .unit)) (take w (arms .triples))
     → (o : Bool) → o ≡ every (λ i. eqb (tripleAt s (t .triples) i .state) (tripleAt s (t .triples) (getD (arms .triples) 0 0) .state)) (take w (arms .triples))
-    → (q && (r && (u && o))) ≡ callSound (sheetOf s) (shown (t .header .programs) call arms)
+    → (q && (r && (u && o))) ≡ callSound (sheetOf s) (unpadArmed (t .header .programs) call arms)
 unfolding callSound sheetOf commonOf
 call-is s t (h, e) call arms long q (v, kept) w (f, g) r x u y o z =
     let a = accepted sheetLayout s h in
@@ -91,7 +91,7 @@ module _ (S : Sheet) (w : WatchState) (v : length (w .variables) ≡ 4) (long : 
       (ap (λ (b : Bool). clear (S .common .monitors) (w .variables) && b) (between (every (λ (c : Call). padded 8 (S .common .programs) (c .kept)) (w .calls)) (every isZeroCall (drop (w .opened) (w .calls))) (every tidyArms (w .arms)) (every isZeroArms (drop (w .opened) (w .arms)))))
 
   abbrev row : List Armed
-  row = beside (shown (S .common .programs)) (take (w .opened) (w .calls)) (take (w .opened) (w .arms))
+  row = beside (unpadArmed (S .common .programs)) (take (w .opened) (w .calls)) (take (w .opened) (w .arms))
 
   sound-parts : S .common .monitors ≤ 4
       → (ltb (w .main) (S .common .states) && ((distinct (map (λ (c : Call). c .number) (take (w .opened) (w .calls))) && every (callSound S) row) && verdictSound S (w .main) (w .position) (verdictIn (w .outcome))))
@@ -101,11 +101,11 @@ module _ (S : Sheet) (w : WatchState) (v : length (w .variables) ≡ 4) (long : 
       let n = S .common .monitors in
       let e = length-take (w .opened) (w .calls) in
       let f = length-take (w .opened) (w .arms) in
-      let g = length-beside (shown (S .common .programs)) (take (w .opened) (w .calls)) (take (w .opened) (w .arms)) (omega arith) in
+      let g = length-beside (unpadArmed (S .common .programs)) (take (w .opened) (w .calls)) (take (w .opened) (w .arms)) (omega arith) in
       let k : eqb (length (take n (w .variables))) n ≡ true = eq-eqb (length (take n (w .variables))) n (length-take-le n (w .variables) (omega arith)) in
       let m : leb (length row) 16 ≡ true = le-leb (length row) 16 (omega (arith, g, e)) in
       let d : map (λ (a : Armed). a .call .number) row ≡ map (λ (c : Call). c .number) (take (w .opened) (w .calls)) =
-      beside-left (shown (S .common .programs)) (λ (a : Armed). a .call .number) (λ (c : Call). c .number) (λ c a. refl) (take (w .opened) (w .calls)) (take (w .opened) (w .arms)) (omega arith) in
+      beside-left (unpadArmed (S .common .programs)) (λ (a : Armed). a .call .number) (λ (c : Call). c .number) (λ c a. refl) (take (w .opened) (w .calls)) (take (w .opened) (w .arms)) (omega arith) in
       rw (k, m, d) (ap (λ (b : Bool). ltb (w .main) (S .common .states) && b) (and-assoc (distinct (map (λ (c : Call). c .number) (take (w .opened) (w .calls)))) (every (callSound S) row) (verdictSound S (w .main) (w .position) (verdictIn (w .outcome)))))
 
 -- all tests of a state
@@ -118,7 +118,7 @@ pub sound-is : (s : List ℕ) (t : Tables) → (reading sheetLayout s ≡ 0) × 
     → (b₄ : Bool) → b₄ ≡ every tidyArms (w .arms)
     → (b₅ : Bool) → b₅ ≡ every isZeroArms (drop o (w .arms))
     → (b₆ : Bool) → b₆ ≡ distinct (map (λ (c : Call). c .number) (take o (w .calls)))
-    → (b₇ : Bool) → b₇ ≡ every (callSound (sheetOf s)) (beside (shown (t .header .programs)) (take o (w .calls)) (take o (w .arms)))
+    → (b₇ : Bool) → b₇ ≡ every (callSound (sheetOf s)) (beside (unpadArmed (t .header .programs)) (take o (w .calls)) (take o (w .arms)))
     → (b₈ : Bool) → b₈ ≡ verdictFits (t .header .bad) (t .header .last) (w .main) (w .position) (verdictIn (w .outcome))
     → (leb o 16 && ((b₁ && ((b₂ && b₃) && (b₄ && b₅))) && (ltb (w .main) (t .header .states) && ((b₆ && b₇) && b₈)))) ≡ soundState (sheetOf s) w
 unfolding soundState sheetOf commonOf

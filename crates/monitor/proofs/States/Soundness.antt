@@ -56,7 +56,7 @@ failing-there S k e l h = go (first (ofNumber (e .number)) l) refl
 
 -- An exit keeps a sound state sound.
 pub exited-sound : {s : List ℕ} → Accepted sheetLayout s → (σ : State) (e : Event) → sound (sheetOf s) σ ≡ true → sound (sheetOf s) (exited (sheetOf s) σ e) ≡ true
-unfolding sound exited sheetOf verdict
+unfolding sound exited sheetOf
 exited-sound {s} a σ e h =
     let C = commonOf s in
     let ts = transitionsOf sheetLayout s in
@@ -85,7 +85,7 @@ module _ {s : List ℕ} (a : Accepted sheetLayout s) (σ : State) (e : Event) wh
       (and-both (among-every (λ i. ltb i (length (S .triples)) && eqb (tripleIn S i .unit) (e .unit)) (armedBy S k e) (λ i m. and-both (lt-ltb _ _ (armed-of S k e i m .0)) (eq-eqb _ _ (armed-of S k e i m .2)))) (armed-one-state S k e)))))
 
   pub entered-sound : sound (sheetOf s) σ ≡ true → refusal (sheetOf s) σ e ≡ 0 → isEntry e ≡ true → sound (sheetOf s) (entered (sheetOf s) σ e) ≡ true
-  unfolding sound entered sheetOf every verdict
+  unfolding sound entered sheetOf every
   entered-sound h z y =
       let C = commonOf s in
       let ts = transitionsOf sheetLayout s in

@@ -20,7 +20,7 @@ use Rattle.monitor.specs.declared.Arms.{Arms}
 use Rattle.monitor.specs.declared.WatchState.{WatchState}
 use Rattle.monitor.specs.Monitor.{Armed, State}
 use Rattle.monitor.specs.Sound.{callSound, sound}
-use Rattle.monitor.specs.Padded.{zeroArms, padArms, pad, shown, view, isZeroArms, tidyArms, tidy, soundState}
+use Rattle.monitor.specs.Padded.{zeroArms, padArms, pad, unpadArmed, view, isZeroArms, tidyArms, tidy, soundState}
 
 -- Two lists side by side: as long as both, one side of them, and two images of one list.
 module _ {A B C : Type 0} (f : A → B → C) where
@@ -73,20 +73,20 @@ module _ (P opened : ℕ) (calls : List Call) (arms : List Arms) (long : length 
   as-long : length (take opened calls) ≡ length (take opened arms)
   as-long = length-take opened calls ∙ rw long (sym (length-take opened arms))
 
-  calls-of : map (λ (a : Armed). a .call) (beside (shown P) (take opened calls) (take opened arms)) ≡ map (unpad P) (take opened calls)
-  calls-of = beside-left (shown P) (λ (a : Armed). a .call) (unpad P) (λ c a. refl) (take opened calls) (take opened arms) as-long
+  calls-of : map (λ (a : Armed). a .call) (beside (unpadArmed P) (take opened calls) (take opened arms)) ≡ map (unpad P) (take opened calls)
+  calls-of = beside-left (unpadArmed P) (λ (a : Armed). a .call) (unpad P) (λ c a. refl) (take opened calls) (take opened arms) as-long
 
   calls-in : every (λ (c : Call). padded 8 P (c .kept)) calls ≡ true → every isZeroCall (drop opened calls) ≡ true
-      → fit (length calls) zeroCall (map (λ (a : Armed). padCall (a .call)) (beside (shown P) (take opened calls) (take opened arms))) ≡ calls
+      → fit (length calls) zeroCall (map (λ (a : Armed). padCall (a .call)) (beside (unpadArmed P) (take opened calls) (take opened arms))) ≡ calls
   calls-in h z =
-      let e = sym (map-map padCall (λ (a : Armed). a .call) (beside (shown P) (take opened calls) (take opened arms))) ∙ ap (map padCall) calls-of in
+      let e = sym (map-map padCall (λ (a : Armed). a .call) (beside (unpadArmed P) (take opened calls) (take opened arms))) ∙ ap (map padCall) calls-of in
       ap (fit (length calls) zeroCall) e ∙ rows-in P opened calls h z
 
   arms-in : every tidyArms arms ≡ true → every isZeroArms (drop opened arms) ≡ true
-      → fit (length arms) zeroArms (map (λ (a : Armed). padArms (a .armed)) (beside (shown P) (take opened calls) (take opened arms))) ≡ arms
+      → fit (length arms) zeroArms (map (λ (a : Armed). padArms (a .armed)) (beside (unpadArmed P) (take opened calls) (take opened arms))) ≡ arms
   arms-in h z =
       let f : Arms → Arms = λ a. padArms (take (a .count) (a .triples)) in
-      let e = beside-right (shown P) (λ (a : Armed). padArms (a .armed)) f (λ c a. refl) (take opened calls) (take opened arms) as-long in
+      let e = beside-right (unpadArmed P) (λ (a : Armed). padArms (a .armed)) f (λ c a. refl) (take opened calls) (take opened arms) as-long in
       ap (fit (length arms) zeroArms) (e ∙ map-same tidyArms f pad-arms (take opened arms) (every-take tidyArms opened arms h))
       ∙ fit-take zeroArms (λ a. tidyArms a && isZeroArms a) zero-arms opened arms (every-both tidyArms isZeroArms (drop opened arms) (every-drop tidyArms opened arms h) z)
 
@@ -105,15 +105,15 @@ module _ (S : Sheet) where
       let b : length (w .arms) ≡ 16 = simp eqb-iff at n in
       let o : w .opened ≤ 16 = simp leb-iff at few in
       let long : length (w .calls) ≡ length (w .arms) = a ∙ sym b in
-      let shown-calls = length-beside (shown P) (take (w .opened) (w .calls)) (take (w .opened) (w .arms)) (as-long P (w .opened) (w .calls) (w .arms) long) in
-      let e : length (beside (shown P) (take (w .opened) (w .calls)) (take (w .opened) (w .arms))) ≡ w .opened = omega (arith, shown-calls, length-take (w .opened) (w .calls)) in
+      let shown-calls = length-beside (unpadArmed P) (take (w .opened) (w .calls)) (take (w .opened) (w .arms)) (as-long P (w .opened) (w .calls) (w .arms) long) in
+      let e : length (beside (unpadArmed P) (take (w .opened) (w .calls)) (take (w .opened) (w .arms))) ≡ w .opened = omega (arith, shown-calls, length-take (w .opened) (w .calls)) in
       let variables = fit-padded 4 (S .common .monitors) (w .variables) u v in
-      let calls = subst (λ (j : ℕ). fit j zeroCall (map (λ (a : Armed). padCall (a .call)) (beside (shown P) (take (w .opened) (w .calls)) (take (w .opened) (w .arms)))) ≡ w .calls) a (calls-in P (w .opened) (w .calls) (w .arms) long k z) in
-      let arms = subst (λ (j : ℕ). fit j zeroArms (map (λ (a : Armed). padArms (a .armed)) (beside (shown P) (take (w .opened) (w .calls)) (take (w .opened) (w .arms)))) ≡ w .arms) b (arms-in P (w .opened) (w .calls) (w .arms) long t y) in
+      let calls = subst (λ (j : ℕ). fit j zeroCall (map (λ (a : Armed). padCall (a .call)) (beside (unpadArmed P) (take (w .opened) (w .calls)) (take (w .opened) (w .arms)))) ≡ w .calls) a (calls-in P (w .opened) (w .calls) (w .arms) long k z) in
+      let arms = subst (λ (j : ℕ). fit j zeroArms (map (λ (a : Armed). padArms (a .armed)) (beside (unpadArmed P) (take (w .opened) (w .calls)) (take (w .opened) (w .arms)))) ≡ w .arms) b (arms-in P (w .opened) (w .calls) (w .arms) long t y) in
       λ i. record { main = w .main; variables = variables i; opened = e i; calls = calls i; arms = arms i; position = w .position; outcome = outcome-verdict (w .outcome) i }
 
   -- and what a padded state shows is the state
-  shown-back : S .common .programs ≤ 8 → (a : Armed) → callSound S a ≡ true → shown (S .common .programs) (padCall (a .call)) (padArms (a .armed)) ≡ a
+  shown-back : S .common .programs ≤ 8 → (a : Armed) → callSound S a ≡ true → unpadArmed (S .common .programs) (padCall (a .call)) (padArms (a .armed)) ≡ a
   unfolding callSound
   shown-back few a h =
       let (u, (k, (m, r))) = simp and-iff at h in
@@ -129,7 +129,7 @@ module _ (S : Sheet) where
       let variables = take-fitted 0 4 (S .common .monitors) (σ .configuration .variables) (simp eqb-iff at n) few in
       let first = take-fitted zeroCall 16 (length (σ .calls)) (map f (σ .calls)) (length-map (σ .calls) f) (simp leb-iff at o) in
       let second = take-fitted zeroArms 16 (length (σ .calls)) (map g (σ .calls)) (length-map (σ .calls) g) (simp leb-iff at o) in
-      let calls = ap₂ (beside (shown (S .common .programs))) first second ∙ beside-same (callSound S) (shown (S .common .programs)) f g (shown-back fewer) (σ .calls) k in
+      let calls = ap₂ (beside (unpadArmed (S .common .programs))) first second ∙ beside-same (callSound S) (unpadArmed (S .common .programs)) f g (shown-back fewer) (σ .calls) k in
       λ i. record { configuration = record { main = σ .configuration .main; variables = variables i }; calls = calls i; position = σ .position; verdict = verdict-outcome (σ .verdict) i }
 
 -- What a padded state shows.

@@ -62,7 +62,7 @@ module _ (N : Network) (τ : Engine.State) (e : Event) where
       let row = ap (λ (l : List Checker). rowOf (τ .calls) ++ l) (sym created-armed) ∙ sym (row-more (τ .calls) new) in
       let calls = sym (map-append (λ (a : Armed). a .call) (τ .calls) (new ∷ [])) in
       let to = moved (N .common) (bases N) k e in
-      λ i. record { configuration = to; calls = calls i; checkers = row i; position = τ .position + 1; verdict = verdict (N .common) (τ .position + 1) (to .main) none }
+      λ i. record { configuration = to; calls = calls i; checkers = row i; position = τ .position + 1; verdict = verdict (N .common .bad) (τ .position + 1) (to .main) none }
 
   pub answer-same : Network.offer N (ungrouped τ) e .answer ≡ Engine.offer (ofNetwork N) τ e .answer
   unfolding Network.offer Engine.offer
@@ -94,7 +94,7 @@ module _ (N : Network) (τ : Engine.State) (e : Event) where
     exited-same =
         let to = moved (N .common) (bases N) k e in
         let calls = keep-map (λ (c : Call). not (Network.ofNumber (e .number) c)) (λ (a : Armed). a .call) (τ .calls) in
-        let judged = ap (verdict (N .common) (τ .position + 1) (to .main)) failing-same in
+        let judged = ap (verdict (N .common .bad) (τ .position + 1) (to .main)) failing-same in
         λ i. record { configuration = to; calls = calls i; checkers = row-left (e .number) (τ .calls) i; position = τ .position + 1; verdict = judged i }
 
     pub state-same : Network.offer N (ungrouped τ) e .state ≡ ungrouped (Engine.offer (ofNetwork N) τ e .state)

@@ -91,7 +91,7 @@ failing-there N k e calls l h (some c) =
 module _ {s : List ℕ} (a : Accepted networkLayout s) (σ : State) (e : Event) where
   -- An exit keeps a sound state sound.
   pub exited-sound : sound (networkOf s) σ ≡ true → sound (networkOf s) (exited (networkOf s) σ e) ≡ true
-  unfolding sound exited verdict networkOf
+  unfolding sound exited networkOf
   exited-sound h =
       let N = networkOf s in
       let k = σ .configuration in
@@ -108,7 +108,7 @@ module _ {s : List ℕ} (a : Accepted networkLayout s) (σ : State) (e : Event) 
 
   -- An entry that is taken keeps a sound state sound.
   pub entered-sound : sound (networkOf s) σ ≡ true → refusal (networkOf s) σ e ≡ 0 → isEntry e ≡ true → sound (networkOf s) (entered (networkOf s) σ e) ≡ true
-  unfolding sound entered verdict callSound every networkOf
+  unfolding sound entered callSound every networkOf
   entered-sound h z y =
       let N = networkOf s in
       let k = σ .configuration in
