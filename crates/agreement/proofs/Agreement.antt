@@ -2,6 +2,7 @@
 pub mod Machines
 pub mod Row
 pub mod Exact
+pub mod Meaning
 use mathlib.Core.Path.{_≡_, refl, sym, ap, ap₂, subst, _∙_}
 use mathlib.Core.Bool.{true}
 use mathlib.Core.List.{List, [], _∷_, map-map}
@@ -15,21 +16,19 @@ use Rattle.sheet.specs.Reading.{reading, sheetLayout, networkLayout}
 use Rattle.sheet.specs.Log.{Event, logReading, eventsOf}
 use Rattle.sheet.proofs.Accepted.{Accepted, accepted, reading-accepted}
 use Rattle.sheet.proofs.Tests.{and-iff}
-use Rattle.step.specs.declared.Answer.{Answer}
 use Rattle.step.specs.Lists.{distinct}
 use Rattle.step.specs.Calls.{Call}
-use Rattle.step.specs.Answers.{answerOf, ranAnswer, unlessRefused}
-use Rattle.translation.specs.declared.Translated.the-variants.{Written}
-use Rattle.translation.specs.Answer.{translatedOf, bufferOf}
-use Rattle.translation.proofs.Cut.{sheet-accepted}
+use Rattle.step.specs.Runs.{Offered}
+use Rattle.step.specs.Answers.{Response, answerOf, ranAnswer, unlessRefused}
+use Rattle.translation.specs.Answer.{bufferOf}
+use Rattle.translation.proofs.Cut.{written-always}
+use Rattle.engine.specs.Runs as Runs
 use Rattle.monitor.specs.Monitor as Monitor
 use Rattle.monitor.specs.Monitor.{Armed}
-use Rattle.monitor.specs.Demand.{begun}
 use Rattle.monitor.specs.Answers as OnSheet
 use Rattle.monitor.proofs.Demand2.Broken.{Plain}
 use Rattle.monitor.proofs.Demand2.Acceptance.{accepted-plain}
 use Rattle.network.specs.declared.NetworkState.{NetworkState}
-use Rattle.network.specs.declared.Offered.{Offered}
 use Rattle.network.specs.Network as Net
 use Rattle.network.specs.Sound.{sound}
 use Rattle.network.specs.Padded.{pad, view, freshOf}
@@ -37,17 +36,20 @@ use Rattle.network.specs.Grouped.{rowOf, ungrouped}
 use Rattle.network.specs.Answers as OnNetwork
 use Rattle.network.specs.Answers.{offerOf}
 use Rattle.network.proofs.ByMachine.Apart.{Apart}
+use Rattle.network.proofs.ByMachine.Runs.{endsIn}
 use Rattle.network.proofs.States.Living.{checkers-few}
 use Rattle.network.proofs.States.Views.{view-back}
 use Rattle.network.proofs.States.Soundness.{fresh-sound, offer-sound}
-use Rattle.network.proofs.States.Lasting.{answered, offered-pad}
-use Rattle.agreement.specs.Demand.{Followed, follow, defined, offeredTo, Shown, shownIn, shownBySheet, armedRow, shownByNetwork, Demand3, Exactly, ExactlyDue, SameRun, AsDefined}
+use Rattle.network.proofs.States.Lasting.{offered-pad}
+use Rattle.agreement.specs.Shown.{Followed, follow, defined, offeredTo, Shown, shownIn, shownBySheet, armedRow, shownByNetwork}
+use Rattle.agreement.specs.Meant.{Meant}
+use Rattle.agreement.specs.Demand.{AsDefined, Demand3}
 use Rattle.agreement.specs.Realises.{Realises}
 use Rattle.agreement.proofs.Translation.Written.{network-accepted, network-translated}
 use Rattle.agreement.proofs.Translation.{translate-realises}
 use Rattle.agreement.proofs.Agreement.Machines.{fresh-same, answer-same, state-same, run-same}
 use Rattle.agreement.proofs.Agreement.Row.{row-own, shown-same}
-use Rattle.agreement.proofs.Agreement.Exact.{taken-list, once-held, one-due, due-one}
+use Rattle.agreement.proofs.Agreement.Meaning.{meant}
 
 -- An accepted network that realises a sheet.
 module _ (S : Sheet) {n : List ℕ} (a : Accepted networkLayout n) (r : Realises S (networkOf n)) where
@@ -77,14 +79,14 @@ module _ (S : Sheet) {n : List ℕ} (a : Accepted networkLayout n) (r : Realises
     next-good = subst (λ (τ : Net.State). sound (networkOf n) τ ≡ true) next-state (offer-sound a (ungrouped σ) e h)
 
     -- One event, as the operation sees it.
-    offered-same : offerOf n (pad (ungrouped σ)) e ≡ answered (answerOf (Monitor.offer S σ e .answer)) (pad (ungrouped (Monitor.offer S σ e .state)))
-    offered-same = offered-pad a (ungrouped σ) h e ∙ ap₂ (λ (x : ℕ) (τ : Net.State). answered (answerOf x) (pad τ)) (answer-same r σ e (main-below σ h)) next-state
+    offered-same : offerOf n (pad (ungrouped σ)) e ≡ record { answer = Monitor.offer S σ e .answer; state = pad (ungrouped (Monitor.offer S σ e .state)) }
+    offered-same = offered-pad a (ungrouped σ) h e ∙ ap₂ (λ (x : ℕ) (τ : Net.State). record { answer = x; state = pad τ }) (answer-same r σ e (main-below σ h)) next-state
 
   abbrev onSheet : Monitor.State → List Event → Followed Monitor.State
-  onSheet σ es = follow (λ σ e. answerOf (Monitor.offer S σ e .answer)) (λ σ e. Monitor.offer S σ e .state) σ es
+  onSheet σ es = follow (Monitor.offer S) σ es
 
   abbrev onNetwork : NetworkState → List Event → Followed NetworkState
-  onNetwork w es = follow (λ w e. offerOf n w e .answer) (λ w e. offerOf n w e .state) w es
+  onNetwork w es = follow (offerOf n) w es
 
   -- The list: the answers are the same, and the last state is the definition's.
   follow-same : (es : List Event) (σ : Monitor.State) → Good σ → onNetwork (pad (ungrouped σ)) es ≡ record { answers = onSheet σ es .answers; state = pad (ungrouped (onSheet σ es .state)) }
@@ -92,8 +94,8 @@ module _ (S : Sheet) {n : List ℕ} (a : Accepted networkLayout n) (r : Realises
   follow-same [] σ h = refl
   follow-same (e ∷ es) σ h =
       let rest = follow-same es (Monitor.offer S σ e .state) (next-good σ e h) in
-      let both : Answer → Followed NetworkState → Followed NetworkState = λ x r. record { answers = x ∷ r .answers; state = r .state } in
-      ap (λ (x : Offered). both (x .answer) (onNetwork (x .state) es)) (offered-same σ e h) ∙ ap (both (answerOf (Monitor.offer S σ e .answer))) rest
+      let both : Response → Followed NetworkState → Followed NetworkState = λ x r. record { answers = x ∷ r .answers; state = r .state } in
+      ap (λ (x : Offered NetworkState). both (answerOf (x .answer)) (onNetwork (x .state) es)) (offered-same σ e h) ∙ ap (both (answerOf (Monitor.offer S σ e .answer))) rest
 
   follow-good : (es : List Event) (σ : Monitor.State) → Good σ → Good (onSheet σ es .state)
   unfolding follow
@@ -104,12 +106,12 @@ module _ (S : Sheet) {n : List ℕ} (a : Accepted networkLayout n) (r : Realises
   pub start-sound : sound (networkOf n) (ungrouped (Monitor.fresh S)) ≡ true
   start-sound = subst (λ (τ : Net.State). sound (networkOf n) τ ≡ true) (fresh-same r) (fresh-sound a)
 
-  started : freshOf n .state ≡ pad (ungrouped (Monitor.fresh S))
+  started : freshOf n ≡ pad (ungrouped (Monitor.fresh S))
   unfolding freshOf
   started = rw (reading-accepted networkLayout n a) (ap pad (fresh-same r))
 
   -- a run of events
-  runs-same : (es : List Event) → ranAnswer OnNetwork.endsIn (Net.run (networkOf n) es) ≡ ranAnswer OnSheet.endsIn (Monitor.run S es)
+  runs-same : (es : List Event) → ranAnswer endsIn (Net.run (networkOf n) es) ≡ ranAnswer Runs.endsIn (Monitor.run S es)
   runs-same = run-same r Good main-below next-good start-sound
 
   -- what is shown after a list
@@ -124,21 +126,15 @@ module _ (S : Sheet) {n : List ℕ} (a : Accepted networkLayout n) (r : Realises
       ∙ ap (shownIn (r .answers)) (view-back a (ungrouped (r .state)) good)
       ∙ shown-same (r .answers) (r .state) (numbers-differ (r .state) good)
 
-  -- each living checker has its reason
-  pub row-exact : Plain S → (es : List Event) → Exactly S es (shownByNetwork n (offeredTo n es) .checkers)
-  unfolding defined shownBySheet
-  row-exact plain es =
+  -- and in published terms
+  pub meant-agrees : Plain S → (es : List Event) → Meant S es (shownByNetwork n (offeredTo n es))
+  unfolding defined
+  meant-agrees plain es =
       let σ = onSheet (Monitor.fresh S) es .state in
       let good = follow-good es (Monitor.fresh S) start-sound in
       let d = numbers-differ σ good in
-      let t = taken-list S es [] (Monitor.fresh S) begun in
       let few : length (armedRow (σ .calls)) ≤ 64 = rw (← row-own (σ .calls) d, length-map) (row-few σ good) in
-      rw (shown-agrees es)
-      (record {
-        due = λ m i. (one-due S plain t m i d, due-one S plain t m i d);
-        once = λ m i. once-held S plain t m i d;
-        few = few;
-      })
+      subst (Meant S es) (sym (shown-agrees es)) (meant S plain es d few)
 
 -- An accepted network that realises an accepted sheet does what the definition says of the sheet.
 module _ (s n : List ℕ) (g : reading sheetLayout s ≡ 0) (h : reading networkLayout n ≡ 0) (r : Realises (sheetOf s) (networkOf n)) where
@@ -154,21 +150,18 @@ module _ (s n : List ℕ) (g : reading sheetLayout s ≡ 0) (h : reading network
   logs-same log = rw (h, g, programs-same) (ap (unlessRefused (logReading (byte s 5) log)) (runs-same (sheetOf s) a r (eventsOf (byte s 5) log)))
 
   pub as-defined : AsDefined s n
-  unfolding freshOf
-  as-defined = record { accepted = rw h; shown = shown-agrees (sheetOf s) a r; exactly = row-exact (sheetOf s) a r (accepted-plain s g); sameRun = logs-same }
+  as-defined =
+      record {
+        accepted = h;
+        agrees = λ es. record { shown = shown-agrees (sheetOf s) a r es; meant = meant-agrees (sheetOf s) a r (accepted-plain s g) es };
+        sameRun = logs-same;
+      }
 
 -- The network that translating wrote is one.
-module _ (s buffer : List ℕ) (size : ℕ) (h : translatedOf s buffer ≡ Written size) where
-  pub translation-agrees : AsDefined s (take size (bufferOf s buffer))
-  translation-agrees =
-      as-defined s (take size (bufferOf s buffer)) (sheet-accepted s buffer size h) (reading-accepted networkLayout _ (network-accepted s buffer size h))
-      (subst (Realises (sheetOf s)) (sym (network-translated s buffer size h)) (translate-realises (sheetOf s)))
-
 pub demand3 : Demand3
-demand3 s buffer size h es = let d = translation-agrees s buffer size h in record { accepted = d .accepted; shown = d .shown es }
-
-pub exactly-due : ExactlyDue
-exactly-due s buffer size h es = translation-agrees s buffer size h .exactly es
-
-pub same-run : SameRun
-same-run s buffer size h log = translation-agrees s buffer size h .sameRun log
+demand3 s buffer g =
+    record {
+      long = λ k. written-always s buffer g k;
+      defined = λ size h.
+          as-defined s (take size (bufferOf s buffer)) g (reading-accepted networkLayout _ (network-accepted s buffer size h)) (subst (Realises (sheetOf s)) (sym (network-translated s buffer size h)) (translate-realises (sheetOf s)));
+    }

@@ -17,10 +17,9 @@ use Rattle.sheet.specs.Decode.{commonOf, sheetOf, networkOf}
 use Rattle.sheet.specs.Reading.{whole, counted, tabled, formed, ranged, roled, transitionsOf, lastOf, unless, orElse, reading, sheetLayout, networkLayout}
 use Rattle.sheet.proofs.Accepted.{accepted, bounds}
 use Rattle.sheet.proofs.Encoding.{decode-encode, reading-encode}
-use Rattle.translation.specs.declared.Translated.the-variants.{Refused}
 use Rattle.translation.specs.Translate.{translate, extended}
 use Rattle.translation.specs.Card.{joinedConditions, withConditions, separated, card}
-use Rattle.translation.specs.Answer.{translatedWith, cardBytes, cardFits, cardRefusal, cardOf}
+use Rattle.translation.specs.Answer.{refused, translatedWith, cardBytes, cardFits, cardRefusal, cardOf}
 use Rattle.translation.proofs.Networks.{translate-admitted}
 use Rattle.translation.proofs.Cut.{never, card-sheet-accepted, card-short, card-written-bytes}
 use Rattle.agreement.specs.Realises.{Realises}
@@ -62,10 +61,10 @@ reading-most s =
     unless-most (whole s) 1 _ (omega arith) (unless-most (F .version (byte s 2)) 2 _ (omega arith) (unless-most (counted F s) 3 _ (omega arith) (unless-most (tabled F s) 4 _ (omega arith)
     (unless-most (formed (commonOf s)) 5 _ (omega arith) (unless-most (ranged F (commonOf s) ts rs) 6 _ (omega arith) (unless-most (roled F (commonOf s) ts rs) 7 _ (omega arith) (unless-most (F .spread rs) 8 0 (omega arith) (omega arith))))))))
 
-same-refusal : {n m : ℕ} → Refused n ≡ Refused m → n ≡ m
+same-refusal : {n m : ℕ} → refused n ≡ refused m → n ≡ m
 same-refusal e = cc
 
-too-long-is : (n : ℕ) → n ≤ 8 → (b c : Bool) (size : ℕ) → translatedWith (orElse n (unless b 21 (unless c 19 0))) size ≡ Refused 21 → (n ≡ 0) × (b ≡ false)
+too-long-is : (n : ℕ) → n ≤ 8 → (b c : Bool) (size : ℕ) → translatedWith (orElse n (unless b 21 (unless c 19 0))) size ≡ refused 21 → (n ≡ 0) × (b ≡ false)
 too-long-is zero h true true size e = absurd (never (sym e))
 too-long-is zero h true false size e = absurd (omega (arith, same-refusal e))
 too-long-is zero h false c size e = (refl, refl)

@@ -13,9 +13,8 @@ use Rattle.sheet.specs.Decode.{sheetOf, networkOf}
 use Rattle.sheet.specs.Reading.{reading, sheetLayout}
 use Rattle.step.specs.Lists.{keep}
 use Rattle.step.specs.Meets.{meets}
-use Rattle.translation.specs.declared.Translated.the-variants.{Written, Refused}
 use Rattle.translation.specs.Card.{card}
-use Rattle.translation.specs.Answer.{cardFits, cardOf, cardBufferOf}
+use Rattle.translation.specs.Answer.{written, refused, cardFits, cardOf, cardBufferOf}
 use Rattle.agreement.specs.Demand.{AsDefined}
 
 -- a transition of a state, kind and unit whose condition holds under some values
@@ -34,8 +33,8 @@ pub record CardAgrees (s n : List ℕ) : Type 0 where
   pub defined : AsDefined s n
 
 abbrev pub CardDemand : Type 0
-CardDemand = (s buffer : List ℕ) (size : ℕ) → cardOf s buffer ≡ Written size → CardAgrees s (take size (cardBufferOf s buffer))
+CardDemand = (s buffer : List ℕ) (size : ℕ) → cardOf s buffer ≡ written size → CardAgrees s (take size (cardBufferOf s buffer))
 
 -- "After the reading refusals: 21 if some joined condition exceeds 1,024 bytes or the network 65,535": there, and nowhere else.
 abbrev pub RefusedTooLong : Type 0
-RefusedTooLong = (s buffer : List ℕ) → cardOf s buffer ≡ Refused 21 ↔ (reading sheetLayout s ≡ 0) × (cardFits s ≡ false)
+RefusedTooLong = (s buffer : List ℕ) → cardOf s buffer ≡ refused 21 ↔ (reading sheetLayout s ≡ 0) × (cardFits s ≡ false)

@@ -14,6 +14,7 @@ use Rattle.condition.specs.Tree.{Condition, conditionNames, actionNames,
 use Rattle.condition.specs.Parse.{Parsed, malformed, parsed, Reader, exactly, conditionFrom, parseCondition, parseValue, parseAction}
 use Rattle.condition.specs.Meaning.{Environment, lent, holds}
 use Rattle.condition.specs.Answer.{refused, given, sized, longest, actionSized, longestAction, conditionOutcome, valueOutcome, truthOf, holdsFrom, runOutcome, actionOutcome, whether, conditionWhich, actionWhich}
+use Rattle.condition.specs.Word.{signed}
 use Rattle.condition.specs.Walk.{bit, Ends, Skips, Means, conditionReader, valueReader, conditionBit, valueWord, EvaluatesCondition, EvaluatesValue}
 use Rattle.condition.proofs.Walking.{condition-nil}
 use Rattle.condition.proofs.Naming.{unkept, unmonitored, entry-narrow, monitor-narrow, action-entry-narrow}
@@ -76,11 +77,11 @@ module _ (s : List ℕ) (E : Environment) where
     unfolding conditionOutcome parseCondition
     condition-malformed x h = rw (z, elsewhere (conditionReader (lent E)) s q (x .skips) h)
 
-    pub value-answer : EvaluatesValue E s 0 q w → q ≡ length s → given w ≡ valueOutcome s E
+    pub value-answer : EvaluatesValue E s 0 q w → q ≡ length s → given (signed w) ≡ valueOutcome s E
     unfolding valueOutcome parseValue
     value-answer x h =
         let y = whole (valueReader (lent E)) s q (x .skips) h in
-        rw (z, y .1) (ap given (means-parsed (valueWord E) w (y .0) (valueReader (lent E) (length s) s) (y .1) (x .means (length s) (omega arith))))
+        rw (z, y .1) (ap (λ (v : ℕ). given (signed v)) (means-parsed (valueWord E) w (y .0) (valueReader (lent E) (length s) s) (y .1) (x .means (length s) (omega arith))))
 
     pub value-malformed : EvaluatesValue E s 0 q w → (q ≡ length s → ⊥) → refused 5 ≡ valueOutcome s E
     unfolding valueOutcome parseValue

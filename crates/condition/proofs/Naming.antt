@@ -10,7 +10,7 @@ use lib.Dec.{ltb}
 use lib.ListN.{set}
 use borrow.Author.Tests.{le-ltb, not-true}
 use Rattle.condition.specs.declared.Lent.{Lent}
-use Rattle.condition.specs.Word.{plusWord, minusWord, lessWord, equalWord, withinWord}
+use Rattle.condition.specs.Word.{signed, plusWord, minusWord, lessWord, equalWord, withinWord}
 use Rattle.condition.specs.Tree.{Variable, program, monitor, atEntry, Condition, always, negation, both, either, less, equal, within, Value, constant, variable, plus, minus, choose, Assignment, conditionNames, valueNames, actionNames, isMonitor, isAtEntry}
 use Rattle.condition.specs.Parse.{isLent, parsed, conditionFrom, valueFrom, runFrom, parseCondition, parseValue, parseAction}
 use Rattle.condition.specs.Meaning.{Environment, environment, lent, valueOf, holds, word, assigned, performed}
@@ -144,7 +144,7 @@ module _ (s : List ℕ) (E : Environment) where
   unfolding conditionWhich conditionOutcome
   accepted-never-5 p = accepted (sized s) (parseCondition (lent E) s) p (λ c. holds c E)
 
-  pub accepted-value-never-5 : {e : Value} → sized s ≡ true → parseValue (lent E) s ≡ some e → valueOutcome s E ≡ given (word e E)
+  pub accepted-value-never-5 : {e : Value} → sized s ≡ true → parseValue (lent E) s ≡ some e → valueOutcome s E ≡ given (signed (word e E))
   unfolding valueOutcome
   accepted-value-never-5 t e = rw (t, e)
 

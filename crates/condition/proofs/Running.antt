@@ -10,11 +10,10 @@ use lib.Dec.{eqb}
 use lib.ListN.{length, getD, set, take, drop, length-set, length-take, drop-of-length-le, take-append-drop}
 use lib.Seq.{take-set-lt, drop-set-lt}
 use Rattle.condition.specs.declared.Lent.{Lent}
-use Rattle.condition.specs.declared.ActionAnswer.the-variants as action
 use Rattle.condition.specs.Tree.{Assignment}
 use Rattle.condition.specs.Parse.{Parsed, malformed, parsed, one, assignmentFrom, prefixed, thenRun, runFrom, parseAction}
 use Rattle.condition.specs.Meaning.{Environment, environment, lent, word, assigned, performed}
-use Rattle.condition.specs.Answer.{Evaluation, judged, runOutcome, actionPaper, whether}
+use Rattle.condition.specs.Answer.{Evaluation, refused, given, judged, runOutcome, done, performedOn, whether}
 use Rattle.condition.specs.Walk.{Ends, Skips, Gives, valueReader, EvaluatesValue, SkipsAssignment, Assigns}
 use Rattle.condition.proofs.Walking.{open-at, ends-one}
 use Rattle.condition.proofs.Evaluating.{gives-one, gives-any}
@@ -152,12 +151,12 @@ module _ (programs : List ℕ) (count : ℕ) (kept : List ℕ) where
               (x .left);
         }
 
-    pub carried-end : at ≡ length s → record { answer = action.Done; variables = present } ≡ actionPaper count before (runOutcome s (upon before))
+    pub carried-end : at ≡ length s → (given tt ≡ done (runOutcome s (upon before))) × (present ≡ performedOn count before (runOutcome s (upon before)))
     unfolding performed
-    carried-end h = rw (← left-end (lent (upon before)) s at (outcome-upon present) (runOutcome s (upon before)) (x .left) h) (ap (λ (l : List ℕ). record { answer = action.Done; variables = l }) (sym (ap (λ (l : List ℕ). take count present ++ l) (sym (x .rest)) ∙ take-append-drop count present)))
+    carried-end h = rw (← left-end (lent (upon before)) s at (outcome-upon present) (runOutcome s (upon before)) (x .left) h) (refl, sym (ap (λ (l : List ℕ). take count present ++ l) (sym (x .rest)) ∙ take-append-drop count present))
 
-    pub carried-bad : length s ≤ at → (at ≡ length s → ⊥) → record { answer = action.Refused 5; variables = before } ≡ actionPaper count before (runOutcome s (upon before))
-    carried-bad h n = rw (← left-bad (lent (upon before)) s at (outcome-upon present) (runOutcome s (upon before)) (x .left) h n)
+    pub carried-bad : length s ≤ at → (at ≡ length s → ⊥) → (refused 5 ≡ done (runOutcome s (upon before))) × (before ≡ performedOn count before (runOutcome s (upon before)))
+    carried-bad h n = rw (← left-bad (lent (upon before)) s at (outcome-upon present) (runOutcome s (upon before)) (x .left) h n) (refl, refl)
 
 -- four variables, of which the first are the action's, and the number t of the one that is assigned
 module _ (P K s : List ℕ) (at count : ℕ) (before : List ℕ) (four : length before ≡ 4) (t : ℕ) (h : at < length s) (f : t ≡ getD s at 0) where

@@ -4,14 +4,16 @@ use mathlib.Core.Option.{Option, none, some}
 use mathlib.Core.List.{List, _++_}
 use Prim.Native.Nat.{ℕ, _+_}
 use lib.Dec.{leb}
+use lib.IntN.{ℤ}
 use lib.ListN.{length, getD, take, drop}
 use Rattle.condition.specs.declared.Lent.{Lent}
 use Rattle.condition.specs.declared.ConditionAnswer.{ConditionAnswer}
 use Rattle.condition.specs.declared.ConditionAnswer.the-variants as condition
 use Rattle.condition.specs.declared.ValueAnswer.{ValueAnswer}
 use Rattle.condition.specs.declared.ValueAnswer.the-variants as value
+use Rattle.condition.specs.declared.ActionAnswer.{ActionAnswer}
 use Rattle.condition.specs.declared.ActionAnswer.the-variants as action
-use Rattle.condition.specs.declared.Performed.{Performed}
+use Rattle.condition.specs.Word.{signed}
 use Rattle.condition.specs.Tree.{Condition, Assignment}
 use Rattle.condition.specs.Parse.{Parsed, malformed, parsed, conditionFrom, parseCondition, parseValue, parseAction}
 use Rattle.condition.specs.Meaning.{Environment, lent, holds, word, performed}
@@ -44,8 +46,8 @@ judged (some a) f = given (f a)
 unfoldable pub conditionOutcome : List ℕ → Environment → Evaluation Bool
 conditionOutcome s E = cond (sized s) (judged (parseCondition (lent E) s) (λ c. holds c E)) (refused 4)
 
-unfoldable pub valueOutcome : List ℕ → Environment → Evaluation ℕ
-valueOutcome s E = cond (sized s) (judged (parseValue (lent E) s) (λ e. word e E)) (refused 4)
+unfoldable pub valueOutcome : List ℕ → Environment → Evaluation ℤ
+valueOutcome s E = cond (sized s) (judged (parseValue (lent E) s) (λ e. signed (word e E))) (refused 4)
 
 -- What was found at the front of some bytes is a condition, and holds.
 abbrev pub truthOf : Environment → Parsed Condition → Bool
@@ -63,19 +65,27 @@ runOutcome s E = judged (parseAction (lent E) s) (λ a. performed a E)
 unfoldable pub actionOutcome : List ℕ → Environment → Evaluation (List ℕ)
 actionOutcome s E = cond (actionSized s) (runOutcome s E) (refused 4)
 
--- The paper's number and value for each case of the answers.
+-- The paper's number and value for each case of the answers; a value is read as signed, an action gives none.
 abbrev pub conditionPaper : ConditionAnswer → Evaluation Bool
 conditionPaper (condition.Is b) = given b
 conditionPaper (condition.Refused n) = refused n
 
-abbrev pub valuePaper : ValueAnswer → Evaluation ℕ
-valuePaper (value.Is w) = given w
+abbrev pub valuePaper : ValueAnswer → Evaluation ℤ
+valuePaper (value.Is w) = given (signed w)
 valuePaper (value.Refused n) = refused n
 
+abbrev pub actionPaper : ActionAnswer → Evaluation (Unit {0})
+actionPaper action.Done = given tt
+actionPaper (action.Refused n) = refused n
+
+abbrev pub done : Evaluation (List ℕ) → Evaluation (Unit {0})
+done (refused n) = refused n
+done (given l) = given tt
+
 -- Of four variables the first are the action's: those it leaves come back, and on a refusal all of them.
-abbrev pub actionPaper : ℕ → List ℕ → Evaluation (List ℕ) → Performed
-actionPaper count variables (refused n) = record { answer = action.Refused n; variables = variables }
-actionPaper count variables (given l) = record { answer = action.Done; variables = l ++ drop count variables }
+abbrev pub performedOn : ℕ → List ℕ → Evaluation (List ℕ) → List ℕ
+performedOn count variables (refused n) = variables
+performedOn count variables (given l) = l ++ drop count variables
 
 -- The text whose length byte stands at a place, cut short where the bytes end.
 abbrev pub textFrom : List ℕ → ℕ → List ℕ

@@ -4,22 +4,17 @@ use mathlib.Core.Bool.{Bool, true, false}
 use mathlib.Core.List.{List, [], _∷_, _++_}
 use Prim.Native.Nat.{ℕ}
 use lib.IntN.{ℤ, pos, negsuc}
-use Rattle.condition.specs.Word.{signed}
 use Rattle.condition.specs.Meaning.{environment}
-use Rattle.condition.specs.Answer.{Evaluation, refused, given, conditionOutcome, valueOutcome}
+use Rattle.condition.specs.Answer.{given, conditionOutcome, valueOutcome}
 
 -- The bytes of a condition and whether it holds, or of a value and how it reads as signed. No value is lent.
 pub data Row : Type 0 where
   condition : List ℕ → Bool → Row
   value : List ℕ → ℤ → Row
 
-abbrev pub reading : Evaluation ℕ → Evaluation ℤ
-reading (refused n) = refused n
-reading (given w) = given (signed w)
-
 abbrev pub Shown : Row → Type 0
 Shown (condition s b) = conditionOutcome s (environment [] [] []) ≡ given b
-Shown (value s z) = reading (valueOutcome s (environment [] [] [])) ≡ given z
+Shown (value s z) = valueOutcome s (environment [] [] []) ≡ given z
 
 abbrev pub All : List Row → Type 0
 All [] = Unit {0}

@@ -7,12 +7,11 @@ use Prim.Native.Nat.{ℕ, _+_, _-_, _/_, _%_, _^_, _≤_, _<_}
 use lib.Dec.{leb, ltb, eqb}
 use lib.ListN.{length, getD, set, drop}
 use Rattle.condition.specs.declared.Lent.{Lent}
-use Rattle.condition.specs.declared.ActionAnswer.the-variants as action
-use Rattle.condition.specs.declared.Performed.{Performed}
 use Rattle.condition.specs.Word.{bigEndian}
 use Rattle.condition.specs.Tree.{Condition, Value}
 use Rattle.condition.specs.Parse.{Parsed, malformed, parsed, Reader, conditionFrom, valueFrom, assignmentFrom}
 use Rattle.condition.specs.Meaning.{Environment, environment, lent, holds, word}
+use Rattle.condition.specs.Answer.{Evaluation, refused, given}
 
 abbrev pub bit : Bool → ℕ
 bit true = 1
@@ -138,6 +137,6 @@ pub record Assigns (E : Environment) (s : List ℕ) (at r count : ℕ) (before a
   pub rest : drop count after ≡ drop count before
   pub means : (k : ℕ) → length s - (at + 1) ≤ k → Gives (λ a. (after ≡ set before (a .target) (word (a .source) E)) × (a .target < count)) (assignmentFrom k (lent E) (drop at s))
 
--- the answer for a run that was well formed or not, and the variables that it leaves
-abbrev pub ran : Bool → List ℕ → Performed
-ran formed variables = record { answer = cond formed action.Done (action.Refused 5); variables = variables }
+-- what is answered for a run that was well formed or not
+abbrev pub ran : Bool → Evaluation (Unit {0})
+ran formed = cond formed (given tt) (refused 5)

@@ -6,7 +6,7 @@ ghost use Prim.Native.Nat.{_+_, _/_, _%_, _^_, _≤_, _<_};
 ghost use lib.ListN.{length, take};
 ghost use Rattle.condition.specs.Parse.{parseAction};
 ghost use Rattle.condition.specs.Meaning.{environment};
-ghost use Rattle.condition.specs.Answer.{actionPaper, runOutcome, whether};
+ghost use Rattle.condition.specs.Answer.{runOutcome, done, performedOn, whether};
 ghost use Rattle.condition.specs.Walk.{EvaluatesValue, SkipsAssignment, Assigns, ran};
 use crate::Lent;
 use crate::evaluate;
@@ -23,7 +23,7 @@ pub(crate) fn run<'a>(
     kept: &'a [u32],
 ) -> bool
     requires { ⌜ length (now s) ≤ 65535 ⌝ }
-    ensures { λ r. ⌜ ran r (now (variables .exit)) ≡ actionPaper count (now (variables .entry)) (runOutcome (now (s .entry)) (environment (now (program .entry)) (take count (now (variables .entry))) (now (kept .entry)))) ⌝ }
+    ensures { λ r. ⌜ (ran r ≡ done (runOutcome (now (s .entry)) (environment (now (program .entry)) (take count (now (variables .entry))) (now (kept .entry))))) × (now (variables .exit) ≡ performedOn count (now (variables .entry)) (runOutcome (now (s .entry)) (environment (now (program .entry)) (take count (now (variables .entry))) (now (kept .entry))))) ⌝ }
 {
     let before = *variables;
     let mut at = 0;

@@ -7,7 +7,7 @@ ghost use mathlib.Core.List.{[]};
 ghost use lib.ListN.{take};
 ghost use Rattle.condition.specs.Tree.{conditionNames, actionNames, isMonitor, isAtEntry};
 ghost use Rattle.condition.specs.Meaning.{environment};
-ghost use Rattle.condition.specs.Answer.{conditionPaper, conditionOutcome, valuePaper, valueOutcome, holdsFrom, actionPaper, actionOutcome, textFrom, conditionWhich, actionWhich};
+ghost use Rattle.condition.specs.Answer.{conditionPaper, conditionOutcome, valuePaper, valueOutcome, holdsFrom, actionPaper, actionOutcome, done, performedOn, textFrom, conditionWhich, actionWhich};
 
 mod action;
 mod evaluate;
@@ -128,7 +128,7 @@ pub fn perform<'a>(
     count: usize,
     kept: &'a [u32],
 ) -> Performed
-    ensures { λ r. ⌜ r ≡ actionPaper count variables (actionOutcome (now (s .entry)) (environment (now (program .entry)) (take count variables) (now (kept .entry)))) ⌝ }
+    ensures { λ r. ⌜ (actionPaper (r .answer) ≡ done (actionOutcome (now (s .entry)) (environment (now (program .entry)) (take count variables) (now (kept .entry))))) × (r .variables ≡ performedOn count variables (actionOutcome (now (s .entry)) (environment (now (program .entry)) (take count variables) (now (kept .entry))))) ⌝ }
 {
     if s.len() <= LONGEST_ACTION {} else {
         return Performed {
@@ -153,7 +153,7 @@ pub fn perform<'a>(
 // Carries out, in place, the action whose length byte stands at a place, on the first `count` of four
 // monitor variables. What is refused changes none.
 pub fn perform_at(s: &[u8], at: usize, program: &[u32], variables: &mut [u32; 4], count: usize)
-    ensures { λ _. ⌜ now (variables .exit) ≡ actionPaper count (now (variables .entry)) (actionOutcome (textFrom (now (s .entry)) at) (environment (now (program .entry)) (take count (now (variables .entry))) [])) .variables ⌝ }
+    ensures { λ _. ⌜ now (variables .exit) ≡ performedOn count (now (variables .entry)) (actionOutcome (textFrom (now (s .entry)) at) (environment (now (program .entry)) (take count (now (variables .entry))) [])) ⌝ }
 {
     let text = text_at(s, at);
     if text.len() <= LONGEST_ACTION {

@@ -4,11 +4,13 @@ ghost use mathlib.Core.Path.{_≡_};
 ghost use Prim.Native.Nat.{_≤_};
 ghost use lib.ListN.{length};
 ghost use lib.Seq.{sets};
+ghost use Rattle.step.specs.Verdicts.{causeState, causeTriple};
+ghost use Rattle.step.specs.Answers.{runPaper};
 ghost use Rattle.monitor.specs.Answers as OnSheet;
 ghost use Rattle.network.specs.Answers as OnNetwork;
-ghost use Rattle.translation.specs.Answer.{translatedOf, bufferOf, cardOf, cardBufferOf};
+ghost use Rattle.translation.specs.Answer.{translatedPaper, translatedOf, bufferOf, cardOf, cardBufferOf};
 ghost use Rattle.lines.specs.Lines.{linesOf};
-ghost use Rattle.embed.specs.Codes.{codeOf, firstOf, secondOf, thirdOf, stateOf, tripleOf, refusalOf, sizeOf};
+ghost use Rattle.embed.specs.Codes.{codeOf, firstOf, secondOf, thirdOf, orNone, refusalOf, sizeOf};
 use step::Cause;
 use step::RunAnswer;
 use translation::Translated;
@@ -97,7 +99,7 @@ pub extern "C" fn watch_lines(input: &[u8], out: &mut [u8]) -> usize
 
 // What translating answered: the refusal, or 0 and how many bytes there are.
 fn hand_over(answer: Translated, size: &mut usize) -> u32
-    ensures { λ r. ⌜ (r ≡ refusalOf answer) × (now (size .exit) ≡ sizeOf answer (now (size .entry))) ⌝ }
+    ensures { λ r. ⌜ (r ≡ refusalOf (translatedPaper answer)) × (now (size .exit) ≡ sizeOf (translatedPaper answer) (now (size .entry))) ⌝ }
 {
     match answer {
         Translated::Written(n) => {
@@ -109,7 +111,7 @@ fn hand_over(answer: Translated, size: &mut usize) -> u32
 }
 
 fn numbered(answer: RunAnswer) -> Numbers
-    ensures { λ r. ⌜ (r .code ≡ codeOf answer) × (r .first ≡ firstOf answer) × (r .second ≡ secondOf answer) × (r .third ≡ thirdOf answer) ⌝ }
+    ensures { λ r. ⌜ (r .code ≡ codeOf (runPaper answer)) × (r .first ≡ firstOf (runPaper answer)) × (r .second ≡ secondOf (runPaper answer)) × (r .third ≡ thirdOf (runPaper answer)) ⌝ }
 {
     match answer {
         RunAnswer::Violated(v) => {
@@ -143,7 +145,7 @@ fn numbered(answer: RunAnswer) -> Numbers
 }
 
 fn state(cause: Cause) -> u32
-    ensures { λ r. ⌜ r ≡ stateOf cause ⌝ }
+    ensures { λ r. ⌜ r ≡ orNone (causeState cause) ⌝ }
 {
     match cause {
         Cause::BadState(q) => q as u32,
@@ -153,7 +155,7 @@ fn state(cause: Cause) -> u32
 }
 
 fn triple(cause: Cause) -> u32
-    ensures { λ r. ⌜ r ≡ tripleOf cause ⌝ }
+    ensures { λ r. ⌜ r ≡ orNone (causeTriple cause) ⌝ }
 {
     match cause {
         Cause::BadState(_) => 256,

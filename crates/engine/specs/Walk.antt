@@ -8,7 +8,7 @@ use lib.Dec.{eqb, ltb, leb}
 use lib.ListN.{length, getD, set, take, drop}
 use lib.Seq.{sets, slice}
 use Rattle.condition.specs.Meaning.{Environment, environment}
-use Rattle.condition.specs.Answer.{actionPaper, actionOutcome, holdsFrom, textFrom}
+use Rattle.condition.specs.Answer.{performedOn, actionOutcome, holdsFrom, textFrom}
 use Rattle.sheet.specs.Table.{fit}
 use Rattle.sheet.specs.Log.{Event}
 use Rattle.step.specs.Lists.{first, keep, placeOf}
@@ -69,7 +69,7 @@ abbrev pub mainAfter : List ℕ → ℕ → ℕ → ℕ
 mainAfter p t main = cond (ltb t 96) (targetOf p t % 256) main
 
 abbrev pub performedAt : List ℕ → ℕ → List ℕ → ℕ → List ℕ → List ℕ
-performedAt s at program count variables = cond (eqb at 0) variables (actionPaper count variables (actionOutcome (textFrom s at) (environment program (take count variables) [])) .variables)
+performedAt s at program count variables = cond (eqb at 0) variables (performedOn count variables (actionOutcome (textFrom s at) (environment program (take count variables) [])))
 
 abbrev pub variablesAfter : List ℕ → List ℕ → ℕ → List ℕ → List ℕ → List ℕ
 variablesAfter s p t values variables = cond (ltb t 96) (performedAt s (actionOf p t) (take (programsIn p) values) (monitorsIn p) variables) variables

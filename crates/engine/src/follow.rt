@@ -9,7 +9,7 @@ ghost use Rattle.sheet.specs.Bytes.{word};
 ghost use Rattle.sheet.specs.Table.{table};
 ghost use Rattle.sheet.specs.Decode.{wordForm};
 ghost use Rattle.sheet.specs.Log.{logReading, eventsOf};
-ghost use Rattle.step.specs.Answers.{ranAnswer};
+ghost use Rattle.step.specs.Answers.{runPaper, ranAnswer};
 ghost use Rattle.engine.specs.Runs.{startIn, followIn, endsBy, givenAt};
 use crate::Given;
 use crate::PLAN;
@@ -23,7 +23,7 @@ use step::RunAnswer;
 // Follows the records of a log, of so many values each, from the state before the first event.
 pub(crate) fn follow(s: &[u8], plan: &[u16; PLAN], log: &[u8], programs: u8) -> RunAnswer
     requires { ⌜ (logReading programs (now log) ≡ 0) × (programs ≤ 8) ⌝ }
-    ensures { λ r. ⌜ r ≡ ranAnswer endsBy (followIn (now (s .entry)) (now (plan .entry)) (eventsOf programs (now (log .entry)))) ⌝ }
+    ensures { λ r. ⌜ runPaper r ≡ ranAnswer endsBy (followIn (now (s .entry)) (now (plan .entry)) (eventsOf programs (now (log .entry)))) ⌝ }
 {
     let count = wide(programs);
     let size = 4 + 4 * count;

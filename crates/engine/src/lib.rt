@@ -5,9 +5,9 @@ ghost use mathlib.Core.Path.{_≡_};
 ghost use Prim.Native.Nat.{_<_, _≤_};
 ghost use Rattle.sheet.specs.Bytes.{byte, half};
 ghost use Rattle.sheet.specs.Reading.{reading, sheetLayout, networkLayout};
-ghost use Rattle.sheet.specs.Answer.{answer};
+ghost use Rattle.sheet.specs.Answer.{readingPaper, answer};
 ghost use Rattle.sheet.specs.Log.{logReading, eventsOf};
-ghost use Rattle.step.specs.Answers.{unlessTaken, unlessRefused, ranAnswer};
+ghost use Rattle.step.specs.Answers.{runPaper, unlessTaken, unlessRefused, ranAnswer};
 ghost use Rattle.engine.specs.Prepared.{sheetInto, networkInto};
 ghost use Rattle.engine.specs.Runs.{followIn, endsBy, sheetRun, networkRun};
 ghost use Rattle.engine.specs.Walk.{words, offerIn};
@@ -53,7 +53,7 @@ pub struct Advanced {
 
 // Reads a sheet and puts it into a plan; what is refused leaves the plan as it was.
 pub fn prepare_sheet(s: &[u8], plan: &mut [u16; PLAN]) -> Reading
-    ensures { λ r. ⌜ r ≡ answer (reading sheetLayout (now (s .entry))) ⌝ }
+    ensures { λ r. ⌜ readingPaper r ≡ answer (reading sheetLayout (now (s .entry))) ⌝ }
     ensures { λ _. ⌜ now (plan .exit) ≡ unlessTaken (reading sheetLayout (now (s .entry))) (now (plan .entry)) (sheetInto (now (s .entry)) (now (plan .entry))) ⌝ }
 {
     match sheet::read_sheet(s) {
@@ -67,7 +67,7 @@ pub fn prepare_sheet(s: &[u8], plan: &mut [u16; PLAN]) -> Reading
 
 // The same of a network.
 pub fn prepare_network(s: &[u8], plan: &mut [u16; PLAN]) -> Reading
-    ensures { λ r. ⌜ r ≡ answer (reading networkLayout (now (s .entry))) ⌝ }
+    ensures { λ r. ⌜ readingPaper r ≡ answer (reading networkLayout (now (s .entry))) ⌝ }
     ensures { λ _. ⌜ now (plan .exit) ≡ unlessTaken (reading networkLayout (now (s .entry))) (now (plan .entry)) (networkInto (now (s .entry)) (now (plan .entry))) ⌝ }
 {
     match sheet::read_network(s) {
@@ -81,7 +81,7 @@ pub fn prepare_network(s: &[u8], plan: &mut [u16; PLAN]) -> Reading
 
 // Runs a log from the fresh state of a sheet.
 pub fn run_sheet(s: &[u8], log: &[u8]) -> RunAnswer
-    ensures { λ r. ⌜ r ≡ sheetRun (now (s .entry)) (now (log .entry)) ⌝ }
+    ensures { λ r. ⌜ runPaper r ≡ sheetRun (now (s .entry)) (now (log .entry)) ⌝ }
 {
     let mut plan = [ABSENT; PLAN];
     match prepare_sheet(s, &mut plan) {
@@ -92,7 +92,7 @@ pub fn run_sheet(s: &[u8], log: &[u8]) -> RunAnswer
 
 // Runs a log from the fresh state of a network.
 pub fn run_network(s: &[u8], log: &[u8]) -> RunAnswer
-    ensures { λ r. ⌜ r ≡ networkRun (now (s .entry)) (now (log .entry)) ⌝ }
+    ensures { λ r. ⌜ runPaper r ≡ networkRun (now (s .entry)) (now (log .entry)) ⌝ }
 {
     let mut plan = [ABSENT; PLAN];
     match prepare_network(s, &mut plan) {
@@ -107,7 +107,7 @@ pub fn run_network(s: &[u8], log: &[u8]) -> RunAnswer
 // Reads a log and follows it.
 fn run_planned(s: &[u8], plan: &[u16; PLAN], log: &[u8]) -> RunAnswer
     requires { ⌜ byte (now s) 5 ≤ 8 ⌝ }
-    ensures { λ r. ⌜ r ≡ unlessRefused (logReading (byte (now (s .entry)) 5) (now (log .entry))) (ranAnswer endsBy (followIn (now (s .entry)) (now (plan .entry)) (eventsOf (byte (now (s .entry)) 5) (now (log .entry))))) ⌝ }
+    ensures { λ r. ⌜ runPaper r ≡ unlessRefused (logReading (byte (now (s .entry)) 5) (now (log .entry))) (ranAnswer endsBy (followIn (now (s .entry)) (now (plan .entry)) (eventsOf (byte (now (s .entry)) 5) (now (log .entry))))) ⌝ }
 {
     let h = sheet::header_of(s);
     match sheet::read_log(log, h.programs) {

@@ -6,8 +6,7 @@ use lib.Dec.{leb, ltb}
 use lib.ListN.{length, take, drop}
 use Rattle.sheet.specs.Bytes.{half}
 use Rattle.sheet.specs.Reading.{reading, sheetLayout}
-use Rattle.step.specs.declared.RunAnswer.{RunAnswer}
-use Rattle.step.specs.Answers.{unlessRefused}
+use Rattle.step.specs.Answers.{Ending, unlessRefused}
 use Rattle.translation.specs.Answer.{networkBytes}
 use Rattle.monitor.specs.Answers as OnSheet
 use Rattle.network.specs.Answers as OnNetwork
@@ -28,7 +27,7 @@ abbrev pub logIn : List ℕ → List ℕ
 logIn i = drop (sheetSize i) i
 
 -- "first the sheet's run, then the network's (for a refused sheet both give that refusal)"
-abbrev pub networkRun : List ℕ → List ℕ → RunAnswer
+abbrev pub networkRun : List ℕ → List ℕ → Ending
 networkRun s log = unlessRefused (reading sheetLayout s) (OnNetwork.runOf (networkBytes s) log)
 
 -- "It prints two lines"; "more: it prints `too long` only"

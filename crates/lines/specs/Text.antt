@@ -4,9 +4,7 @@ use mathlib.Core.Option.{Option, none, some}
 use mathlib.Core.List.{List, [], _∷_, _++_}
 use Prim.Native.Nat.{ℕ, zero, suc, _+_, _/_, _%_}
 use lib.Dec.{ltb}
-use Rattle.step.specs.declared.RunAnswer.{RunAnswer}
-use Rattle.step.specs.declared.RunAnswer.the-variants.{Violated, Clean, Refused, RefusedAt}
-use Rattle.step.specs.Verdicts.{causeState, causeTriple}
+use Rattle.step.specs.Answers.{Ending, violated, clean, refused, refusedAt}
 
 -- A number in decimal, without zeros in front: its last digit behind the rest. The first argument bounds how many digits there can be.
 abbrev pub digit : ℕ → ℕ
@@ -55,8 +53,8 @@ abbrev pub tooLong : List ℕ
 tooLong = 116 ∷ 111 ∷ 111 ∷ 32 ∷ 108 ∷ 111 ∷ 110 ∷ 103 ∷ 10 ∷ []
 
 -- "`violated N state S triple T` (position; `-` for none), `clean N state S open K` (events, main state, open calls), `refused N`, or `refused N at R`"
-unfoldable pub line : RunAnswer → List ℕ
-line (Violated v) = violatedText ++ (decimal (v .position) ++ (stateText ++ (orDash (causeState (v .cause)) ++ (tripleText ++ (orDash (causeTriple (v .cause)) ++ newline)))))
-line (Clean n q k) = cleanText ++ (decimal n ++ (stateText ++ (decimal q ++ (openText ++ (decimal k ++ newline)))))
-line (Refused n) = refusedText ++ (decimal n ++ newline)
-line (RefusedAt n r) = refusedText ++ (decimal n ++ (atText ++ (decimal r ++ newline)))
+unfoldable pub line : Ending → List ℕ
+line (violated n q t) = violatedText ++ (decimal n ++ (stateText ++ (orDash q ++ (tripleText ++ (orDash t ++ newline)))))
+line (clean n q k) = cleanText ++ (decimal n ++ (stateText ++ (decimal q ++ (openText ++ (decimal k ++ newline)))))
+line (refused n) = refusedText ++ (decimal n ++ newline)
+line (refusedAt n r) = refusedText ++ (decimal n ++ (atText ++ (decimal r ++ newline)))

@@ -4,6 +4,7 @@ ghost use mathlib.Core.Path.{_≡_};
 ghost use Prim.Native.Nat.{_≤_, _<_};
 ghost use lib.ListN.{length};
 ghost use lib.Seq.{sets};
+ghost use Rattle.step.specs.Answers.{runPaper};
 ghost use Rattle.lines.specs.Lines.{sheetSize, networkRun, linesOf};
 use step::RunAnswer;
 use translation::Translated;
@@ -43,7 +44,7 @@ fn sheet_size(input: &[u8]) -> usize
 
 // Translates a sheet and runs a log on its network.
 fn network_run(s: &[u8], log: &[u8]) -> RunAnswer
-    ensures { λ r. ⌜ r ≡ networkRun (now (s .entry)) (now (log .entry)) ⌝ }
+    ensures { λ r. ⌜ runPaper r ≡ networkRun (now (s .entry)) (now (log .entry)) ⌝ }
 {
     let mut buffer = [0u8; 8192];
     match translation::translate(s, &mut buffer) {

@@ -5,8 +5,8 @@ ghost use mathlib.Core.List.{_++_};
 ghost use Prim.Native.Nat.{_≤_, _<_};
 ghost use lib.ListN.{length};
 ghost use Rattle.step.specs.declared.RunAnswer.the-variants.{Violated, Clean};
-ghost use Rattle.lines.specs.Text.{decimal, line};
-ghost use Rattle.lines.specs.Walk.{Puts};
+ghost use Rattle.lines.specs.Text.{decimal};
+ghost use Rattle.lines.specs.Walk.{Puts, lineOf};
 use step::Cause;
 use step::RunAnswer;
 use step::Verdict;
@@ -14,7 +14,7 @@ use step::Verdict;
 // A line for an answer.
 pub(crate) fn line(out: &mut [u8], at: usize, answer: RunAnswer) -> usize
     requires { ⌜ at ≤ 1000 ⌝ }
-    ensures { λ r. ⌜ Puts (now (out .entry)) (now (out .exit)) at (line answer) r 150 ⌝ }
+    ensures { λ r. ⌜ Puts (now (out .entry)) (now (out .exit)) at (lineOf answer) r 150 ⌝ }
 {
     match answer {
         RunAnswer::Violated(v) => violated(out, at, v),
@@ -33,7 +33,7 @@ pub(crate) fn line(out: &mut [u8], at: usize, answer: RunAnswer) -> usize
 
 fn violated(out: &mut [u8], at: usize, v: Verdict) -> usize
     requires { ⌜ at ≤ 1000 ⌝ }
-    ensures { λ r. ⌜ Puts (now (out .entry)) (now (out .exit)) at (line (Violated v)) r 150 ⌝ }
+    ensures { λ r. ⌜ Puts (now (out .entry)) (now (out .exit)) at (lineOf (Violated v)) r 150 ⌝ }
 {
     let cause = v.cause;
     let next = named(out, at, b"violated ", v.position);
@@ -56,7 +56,7 @@ fn violated(out: &mut [u8], at: usize, v: Verdict) -> usize
 
 fn clean(out: &mut [u8], at: usize, n: u32, q: u8, k: u8) -> usize
     requires { ⌜ at ≤ 1000 ⌝ }
-    ensures { λ r. ⌜ Puts (now (out .entry)) (now (out .exit)) at (line (Clean n q k)) r 150 ⌝ }
+    ensures { λ r. ⌜ Puts (now (out .entry)) (now (out .exit)) at (lineOf (Clean n q k)) r 150 ⌝ }
 {
     let next = named(out, at, b"clean ", n);
     let next = named(out, next, b" state ", word(q));

@@ -1,90 +1,115 @@
--- Demand 2: what a run comes to, by the published definition.
+-- Demand 2: what running a log answers, by the published definition, on traces alone.
 use mathlib.Core.Path.{_≡_}
 use mathlib.Core.Logic.{_↔_}
+use mathlib.Core.Bool.{Bool, false, not, cond, _&&_}
 use mathlib.Core.Option.{Option, none, some}
-use mathlib.Core.List.{List, [], _∷_, _++_}
+use mathlib.Core.List.{List, [], _∷_, _++_, map}
 use Prim.Native.Nat.{ℕ, _+_, _≤_}
+use lib.Dec.{eqb}
 use lib.ListN.{length}
+use Rattle.sheet.specs.declared.Transition.{Transition}
 use Rattle.sheet.specs.Bytes.{byte}
 use Rattle.sheet.specs.Parts.{Sheet}
 use Rattle.sheet.specs.Decode.{sheetOf}
-use Rattle.sheet.specs.Log.{Event, eventsOf}
-use Rattle.step.specs.declared.Verdict.{Verdict}
-use Rattle.step.specs.declared.RunAnswer.the-variants as answer
-use Rattle.step.specs.Verdicts.{badState, causeState, causeTriple}
-use Rattle.step.specs.Runs.{violated, clean, refusedAt}
-use Rattle.monitor.specs.Monitor.{State, fresh, refusal, offer, run}
-use Rattle.monitor.specs.Published.{reached, Breaks, Counterexample}
+use Rattle.sheet.specs.Reading.{reading, sheetLayout}
+use Rattle.sheet.specs.Log.{Event, logReading, eventsOf}
+use Rattle.step.specs.Lists.{any}
+use Rattle.step.specs.Moves.{Configuration}
+use Rattle.step.specs.Calls.{Call, isEntry, isExit, refusals, lowest}
+use Rattle.step.specs.Verdicts.{badState}
+use Rattle.step.specs.Answers.{Ending, violated, clean, refused, refusedAt}
+use Rattle.monitor.specs.Published.{Leading, inOrder, asPrinted, Enabled, Breaks, Counterexample}
 use Rattle.monitor.specs.Answers.{runOf}
 
--- The state is reached from the fresh one by offering the events of the trace in order, each of them taken.
-pub data Taken (S : Sheet) : List Event → State → Type 0 where
-  begun : Taken S [] (fresh S)
-  more : {w : List Event} {σ : State} → Taken S w σ → (e : Event) → refusal S σ e ≡ 0 → Taken S (w ++ e ∷ []) (offer S σ e .state)
+-- "A call is open from entry to exit": an entry whose call is not left in the events after it
+abbrev pub staysOpen : Event → List Event → Bool
+staysOpen e after = isEntry e && not (any (λ x. isExit x && eqb (e .number) (x .number)) after)
+
+-- the entries of a trace whose calls have not been left since, in their order
+unfoldable pub stillOpen : List Event → List Event
+stillOpen [] = []
+stillOpen (e ∷ w) = cond (staysOpen e w) (e ∷ stillOpen w) (stillOpen w)
+
+abbrev pub openedBy : Event → Call
+openedBy e = record { number = e .number; unit = e .unit; kept = e .values }
+
+-- The lowest of refusals 10 to 15 that an event meets after a trace of taken events, with or without a verdict; 0 for none.
+unfoldable pub refusalAfter : Sheet → Bool → List Event → Event → ℕ
+refusalAfter S judged w e = lowest (refusals (S .common) judged (length w) (map openedBy (stillOpen w)) e)
+
+-- Each event of the trace is taken after those before it.
+abbrev pub Taken : Sheet → List Event → Type 0
+Taken S w = (u : List Event) (e : Event) (v : List Event) → w ≡ u ++ e ∷ v → refusalAfter S false u e ≡ 0
 
 -- The lowest triple that a trace breaks, if it breaks one.
-pub record Lowest (S : Sheet) (w : List Event) (t : Option ℕ) : Type 0 where
-  pub unbroken : t ≡ none → (i : ℕ) → Breaks S w i → ⊥
-  pub broken : (i : ℕ) → t ≡ some i → Breaks S w i × ((j : ℕ) → Breaks S w j → i ≤ j)
+pub record Lowest (S : Sheet) (R : Leading) (w : List Event) (t : Option ℕ) : Type 0 where
+  pub unbroken : t ≡ none → (i : ℕ) → Breaks S R w i → ⊥
+  pub broken : (i : ℕ) → t ≡ some i → Breaks S R w i × ((j : ℕ) → Breaks S R w j → i ≤ j)
 
 -- No prefix of the trace is a counterexample.
-abbrev pub Clear : Sheet → List Event → Type 0
-Clear S w = (u v : List Event) → w ≡ u ++ v → Counterexample S u → ⊥
+abbrev pub Clear : Sheet → Leading → List Event → Type 0
+Clear S R w = (u v : List Event) → w ≡ u ++ v → Counterexample S R u → ⊥
 
--- The verdict that belongs to a counterexample: the position of its last event, the bad state that it reaches, if it reaches one, and the lowest triple that
--- it breaks, if it breaks one.
-pub record Finds (S : Sheet) (w : List Event) (v : Verdict) : Type 0 where
-  pub counterexample : Counterexample S w
-  pub position : v .position ≡ length w
-  pub state : causeState (v .cause) ≡ badState (S .common .bad) (reached S w .main)
-  pub triple : Lowest S w (causeTriple (v .cause))
+-- The verdict that belongs to a counterexample: "the event's position", "the bad state" that it reaches, if it reaches one, and "the lowest failing triple", if it
+-- breaks one.
+pub record Finds (S : Sheet) (R : Leading) (w : List Event) (position : ℕ) (state triple : Option ℕ) : Type 0 where
+  pub counterexample : Counterexample S R w
+  pub length : position ≡ length w
+  pub to : Configuration
+  pub leads : R w to
+  pub bad : state ≡ badState (S .common .bad) (to .main)
+  pub lowest : Lowest S R w triple
 
--- The events before the last of some prefix are taken, with no counterexample among their prefixes; the next one is taken too and makes a counterexample; and
--- the verdict is that counterexample's.
-pub record Violated (S : Sheet) (es : List Event) (v : Verdict) : Type 0 where
+-- "first event at which a violation is complete, bad state if any, lowest broken triple if any": the events up to it are taken, with no counterexample among the
+-- prefixes before it, and with it they are one.
+pub record Violated (S : Sheet) (R : Leading) (es : List Event) (position : ℕ) (state triple : Option ℕ) : Type 0 where
   pub w : List Event
   pub e : Event
   pub rest : List Event
   pub parts : es ≡ w ++ e ∷ rest
-  pub state : State
-  pub taken : Taken S w state
-  pub taking : refusal S state e ≡ 0
-  pub before : Clear S w
-  pub finds : Finds S (w ++ e ∷ []) v
+  pub taken : Taken S (w ++ e ∷ [])
+  pub before : Clear S R w
+  pub finds : Finds S R (w ++ e ∷ []) position state triple
 
--- All events are taken, and no prefix of them is a counterexample.
-pub record Clean (S : Sheet) (es : List Event) (σ : State) : Type 0 where
-  pub taken : Taken S es σ
-  pub clear : Clear S es
-  pub position : σ .position ≡ length es
-  pub configuration : σ .configuration ≡ reached S es
-  pub unjudged : σ .verdict ≡ none
-
--- The events before this one are taken, with no counterexample among their prefixes, and this one is refused.
-pub record Refused (S : Sheet) (es : List Event) (n i : ℕ) : Type 0 where
+-- "the refusal and its place": the events before this one are taken, with no counterexample among their prefixes, and this one is refused.
+pub record Refused (S : Sheet) (R : Leading) (es : List Event) (number place : ℕ) : Type 0 where
   pub w : List Event
   pub e : Event
   pub rest : List Event
   pub parts : es ≡ w ++ e ∷ rest
-  pub state : State
-  pub taken : Taken S w state
-  pub before : Clear S w
-  pub refused : refusal S state e ≡ n
-  pub some : n ≡ 0 → ⊥
-  pub place : i ≡ length w + 1
+  pub taken : Taken S w
+  pub before : Clear S R w
+  pub refused : refusalAfter S false w e ≡ number
+  pub some : number ≡ 0 → ⊥
+  pub at : place ≡ length w + 1
 
--- What a run comes to, for any events: it ends in a verdict just where the events up to one of them are taken and are the first counterexample, with that
--- counterexample's position, bad state and lowest triple; it ends in a refusal just where an event is refused after events that hold no counterexample; and it is
--- clean just where all events are taken and hold none.
-pub record Published (S : Sheet) (es : List Event) : Type 0 where
-  pub whenViolated : (v : Verdict) → run S es ≡ violated v ↔ Violated S es v
-  pub whenRefused : (n i : ℕ) → run S es ≡ refusedAt n i ↔ Refused S es n i
-  pub whenClean : (σ : State) → run S es ≡ clean σ ↔ Clean S es σ
+-- "else clean", with "events, main state, open calls": all events are taken, and no prefix of them is a counterexample.
+pub record Clean (S : Sheet) (R : Leading) (es : List Event) (events main calls : ℕ) : Type 0 where
+  pub taken : Taken S es
+  pub clear : Clear S R es
+  pub counted : events ≡ length es
+  pub to : Configuration
+  pub leads : R es to
+  pub state : main ≡ to .main
+  pub stillOpen : calls ≡ length (stillOpen es)
 
--- The same of what running a log answers, where the sheet is accepted and the log is read: "the first event at which a violation is complete, bad state if any,
--- lowest broken triple if any; the refusal and its place; else clean", with the number of events, the main state and how many calls are open.
-pub record Answered (s log : List ℕ) : Type 0 where
-  pub whenViolated : (v : Verdict) → runOf s log ≡ answer.Violated v ↔ Violated (sheetOf s) (eventsOf (byte s 5) log) v
-  pub whenRefused : (n i : ℕ) → runOf s log ≡ answer.RefusedAt n i ↔ Refused (sheetOf s) (eventsOf (byte s 5) log) n i
-  pub whenClean : (n q k : ℕ)
-      → runOf s log ≡ answer.Clean n q k ↔ ((σ : State) × Clean (sheetOf s) (eventsOf (byte s 5) log) σ × (σ .position ≡ n) × (σ .configuration .main ≡ q) × (length (σ .calls) ≡ k))
+-- What a run over some events answers: just what is found of them.
+pub record Published (S : Sheet) (R : Leading) (es : List Event) (r : Ending) : Type 0 where
+  pub whenViolated : (position : ℕ) (state triple : Option ℕ) → r ≡ violated position state triple ↔ Violated S R es position state triple
+  pub whenRefused : (number place : ℕ) → r ≡ refusedAt number place ↔ Refused S R es number place
+  pub whenClean : (events main calls : ℕ) → r ≡ clean events main calls ↔ Clean S R es events main calls
+  pub read : (number : ℕ) → r ≡ refused number → ⊥
+
+-- Demand 2, for every accepted sheet and every log that is read.
+abbrev pub Demand2 : Type 0
+Demand2 = (s log : List ℕ) → reading sheetLayout s ≡ 0 → logReading (byte s 5) log ≡ 0 → Published (sheetOf s) (inOrder (sheetOf s)) (eventsOf (byte s 5) log) (runOf s log)
+
+-- "003 wants exclusive conditions": "if q -e|c→a-> q' and q -e|c'→a'-> q'' and q' ≠ q'', then c and c' are mutually exclusive", and also where the actions differ,
+-- which leave other variables
+abbrev pub Exclusive : Sheet → Type 0
+Exclusive S = (k : Configuration) (e : Event) (t u : Transition) → Enabled S k e t → Enabled S k e u → (t .to ≡ u .to) × (t .action ≡ u .action)
+
+-- "sheet order agrees with it there": 003's own definition, which takes any transition whose condition holds, gives the answer too.
+abbrev pub OrderAgrees : Type 0
+OrderAgrees = (s log : List ℕ) → reading sheetLayout s ≡ 0 → logReading (byte s 5) log ≡ 0 → Exclusive (sheetOf s)
+    → Published (sheetOf s) (asPrinted (sheetOf s)) (eventsOf (byte s 5) log) (runOf s log)

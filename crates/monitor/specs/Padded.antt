@@ -8,7 +8,6 @@ use Rattle.sheet.specs.Table.{every, fit}
 use Rattle.sheet.specs.Parts.{Sheet}
 use Rattle.sheet.specs.Decode.{sheetOf}
 use Rattle.sheet.specs.Reading.{reading, sheetLayout}
-use Rattle.sheet.specs.Answer.{answer}
 use Rattle.step.specs.declared.Call.{Call}
 use Rattle.step.specs.declared.Outcome.the-variants.{Open}
 use Rattle.step.specs.Lists.{beside}
@@ -18,7 +17,6 @@ use Rattle.step.specs.Answers.{unlessTaken}
 use Rattle.step.specs.Padding.{unpad, zeroCall, padCall, clear, padded, isZeroCall}
 use Rattle.monitor.specs.declared.Arms.{Arms}
 use Rattle.monitor.specs.declared.WatchState.{WatchState}
-use Rattle.monitor.specs.declared.Fresh.{Fresh}
 use Rattle.monitor.specs.Monitor.{Armed, State, fresh}
 use Rattle.monitor.specs.Sound.{sound}
 
@@ -76,5 +74,5 @@ unfoldable pub soundState : Sheet → WatchState → Bool
 soundState S w = leb (w .opened) mostCalls && (tidy S w && sound S (view S w))
 
 -- "Making a fresh state: the reading refusals, with an all-zero state."
-unfoldable pub freshOf : List ℕ → Fresh
-freshOf s = record { reading = answer (reading sheetLayout s); state = unlessTaken (reading sheetLayout s) zeroState (pad (fresh (sheetOf s))) }
+unfoldable pub freshOf : List ℕ → WatchState
+freshOf s = unlessTaken (reading sheetLayout s) zeroState (pad (fresh (sheetOf s)))

@@ -6,6 +6,7 @@ ghost use mathlib.Core.Bool.{true};
 ghost use Rattle.sheet.specs.Decode.{sheetOf};
 ghost use Rattle.sheet.specs.Reading.{reading, sheetLayout};
 ghost use Rattle.step.specs.Calls.{eventOf};
+ghost use Rattle.step.specs.Answers.{answerPaper, answerOf};
 ghost use Rattle.engine.specs.Prepared.{sheetPlan};
 ghost use Rattle.monitor.specs.Answers.{offerOf};
 ghost use Rattle.monitor.specs.Padded.{soundState};
@@ -25,7 +26,8 @@ pub(crate) fn offer_accepted(
     values: &[u32],
 ) -> Offered
     requires { ⌜ (reading sheetLayout (now s) ≡ 0) × (now plan ≡ sheetPlan (now s)) ⌝ }
-    ensures { λ r. ⌜ r ≡ offerOf (now (s .entry)) state (eventOf event (now (values .entry))) ⌝ }
+    ensures { λ r. ⌜ answerPaper (r .answer) ≡ answerOf (offerOf (now (s .entry)) state (eventOf event (now (values .entry))) .answer) ⌝ }
+    ensures { λ r. ⌜ r .state ≡ offerOf (now (s .entry)) state (eventOf event (now (values .entry))) .state ⌝ }
 {
     let t = sound::tables_of(s, plan[5]);
     if sound::sound(s, t, state) {
@@ -46,7 +48,8 @@ fn offer_sound(
     values: &[u32],
 ) -> Offered
     requires { ⌜ (reading sheetLayout (now s) ≡ 0) × (now plan ≡ sheetPlan (now s)) × (soundState (sheetOf (now s)) state ≡ true) ⌝ }
-    ensures { λ r. ⌜ r ≡ offerOf (now (s .entry)) state (eventOf event (now (values .entry))) ⌝ }
+    ensures { λ r. ⌜ answerPaper (r .answer) ≡ answerOf (offerOf (now (s .entry)) state (eventOf event (now (values .entry))) .answer) ⌝ }
+    ensures { λ r. ⌜ r .state ≡ offerOf (now (s .entry)) state (eventOf event (now (values .entry))) .state ⌝ }
 {
     let given = engine::pack::given(event, values);
     let eight = step::rows::eight(values);

@@ -5,7 +5,10 @@ ghost use Rattle.monitor.specs.Answers.{offerOf, runOf};
 ghost use Rattle.monitor.specs.Padded.{zeroState, pad, freshOf};
 ghost use Rattle.monitor.specs.Monitor.{fresh};
 ghost use Rattle.sheet.specs.Decode.{sheetOf};
+ghost use Rattle.sheet.specs.Reading.{reading, sheetLayout};
+ghost use Rattle.sheet.specs.Answer.{readingPaper, answer};
 ghost use Rattle.step.specs.Calls.{eventOf};
+ghost use Rattle.step.specs.Answers.{answerPaper, answerOf, runPaper};
 use sheet::Reading;
 use sheet::Record;
 use step::Answer;
@@ -79,7 +82,8 @@ impl WatchState {
 
     // The state before the first event of a log: the start state, the initial values, no calls.
     pub fn fresh(s: &[u8]) -> Fresh
-        ensures { λ r. ⌜ r ≡ freshOf (now (s .entry)) ⌝ }
+        ensures { λ r. ⌜ readingPaper (r .reading) ≡ answer (reading sheetLayout (now (s .entry))) ⌝ }
+        ensures { λ r. ⌜ r .state ≡ freshOf (now (s .entry)) ⌝ }
     {
         match sheet::read_sheet(s) {
             Reading::Accepted => Fresh {
@@ -109,7 +113,8 @@ impl WatchState {
 // Offers one event to a state on a sheet: the reading refusals, 9 to 15, or taken. A refused event
 // leaves the state as it was.
 pub fn offer(s: &[u8], state: WatchState, event: Record, values: &[u32]) -> Offered
-    ensures { λ r. ⌜ r ≡ offerOf (now (s .entry)) state (eventOf event (now (values .entry))) ⌝ }
+    ensures { λ r. ⌜ answerPaper (r .answer) ≡ answerOf (offerOf (now (s .entry)) state (eventOf event (now (values .entry))) .answer) ⌝ }
+    ensures { λ r. ⌜ r .state ≡ offerOf (now (s .entry)) state (eventOf event (now (values .entry))) .state ⌝ }
 {
     let mut plan = [engine::ABSENT; engine::PLAN];
     match engine::prepare_sheet(s, &mut plan) {
@@ -123,7 +128,7 @@ pub fn offer(s: &[u8], state: WatchState, event: Record, values: &[u32]) -> Offe
 
 // Runs a log from the fresh state of a sheet.
 pub fn run(s: &[u8], log: &[u8]) -> RunAnswer
-    ensures { λ r. ⌜ r ≡ runOf (now (s .entry)) (now (log .entry)) ⌝ }
+    ensures { λ r. ⌜ runPaper r ≡ runOf (now (s .entry)) (now (log .entry)) ⌝ }
 {
     engine::run_sheet(s, log)
 }

@@ -8,7 +8,6 @@ use Rattle.sheet.specs.Table.{every, fit}
 use Rattle.sheet.specs.Parts.{Network}
 use Rattle.sheet.specs.Decode.{networkOf}
 use Rattle.sheet.specs.Reading.{reading, networkLayout}
-use Rattle.sheet.specs.Answer.{answer}
 use Rattle.step.specs.declared.Call.{Call}
 use Rattle.step.specs.declared.Outcome.the-variants.{Open}
 use Rattle.step.specs.Calls.{mostCalls}
@@ -17,7 +16,6 @@ use Rattle.step.specs.Padding.{unpad, zeroCall, padCall, padded, isZeroCall}
 use Rattle.step.specs.Answers.{unlessTaken}
 use Rattle.network.specs.declared.Checker.{Checker}
 use Rattle.network.specs.declared.NetworkState.{NetworkState}
-use Rattle.network.specs.declared.Fresh.{Fresh}
 use Rattle.network.specs.Network.{State, fresh}
 use Rattle.network.specs.Sound.{sound}
 
@@ -71,5 +69,5 @@ unfoldable pub soundState : Network → NetworkState → Bool
 soundState N w = leb (w .opened) mostCalls && (leb (w .living) mostCheckers && (tidy N w && sound N (view N w)))
 
 -- "Making a fresh state: the reading refusals, with an all-zero state."
-unfoldable pub freshOf : List ℕ → Fresh
-freshOf n = record { reading = answer (reading networkLayout n); state = unlessTaken (reading networkLayout n) zeroState (pad (fresh (networkOf n))) }
+unfoldable pub freshOf : List ℕ → NetworkState
+freshOf n = unlessTaken (reading networkLayout n) zeroState (pad (fresh (networkOf n)))

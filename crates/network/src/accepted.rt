@@ -9,6 +9,7 @@ ghost use Rattle.sheet.specs.Bytes.{half};
 ghost use Rattle.sheet.specs.Decode.{networkOf};
 ghost use Rattle.sheet.specs.Reading.{reading, networkLayout};
 ghost use Rattle.step.specs.Calls.{eventOf};
+ghost use Rattle.step.specs.Answers.{answerPaper, answerOf};
 ghost use Rattle.engine.specs.Prepared.{networkPlan};
 ghost use Rattle.network.specs.Answers.{offerOf};
 ghost use Rattle.network.specs.Padded.{soundState};
@@ -29,7 +30,8 @@ pub(crate) fn offer_accepted(
     values: &[u32],
 ) -> Offered
     requires { ⌜ (reading networkLayout (now s) ≡ 0) × (now plan ≡ networkPlan (now s)) ⌝ }
-    ensures { λ r. ⌜ r ≡ offerOf (now (s .entry)) state (eventOf event (now (values .entry))) ⌝ }
+    ensures { λ r. ⌜ answerPaper (r .answer) ≡ answerOf (offerOf (now (s .entry)) state (eventOf event (now (values .entry))) .answer) ⌝ }
+    ensures { λ r. ⌜ r .state ≡ offerOf (now (s .entry)) state (eventOf event (now (values .entry))) .state ⌝ }
 {
     let size = length_said(s);
     let t = sound::tables_of(s, plan[5]);
@@ -51,7 +53,8 @@ fn offer_sound(
     values: &[u32],
 ) -> Offered
     requires { ⌜ (reading networkLayout (now s) ≡ 0) × (length (now s) < 65536) × (now plan ≡ networkPlan (now s)) × (soundState (networkOf (now s)) state ≡ true) ⌝ }
-    ensures { λ r. ⌜ r ≡ offerOf (now (s .entry)) state (eventOf event (now (values .entry))) ⌝ }
+    ensures { λ r. ⌜ answerPaper (r .answer) ≡ answerOf (offerOf (now (s .entry)) state (eventOf event (now (values .entry))) .answer) ⌝ }
+    ensures { λ r. ⌜ r .state ≡ offerOf (now (s .entry)) state (eventOf event (now (values .entry))) .state ⌝ }
 {
     let given = engine::pack::given(event, values);
     let eight = step::rows::eight(values);

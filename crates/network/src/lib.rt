@@ -2,7 +2,10 @@
 
 ghost use mathlib.Core.Path.{_≡_};
 ghost use Rattle.sheet.specs.Decode.{networkOf};
+ghost use Rattle.sheet.specs.Reading.{reading, networkLayout};
+ghost use Rattle.sheet.specs.Answer.{readingPaper, answer};
 ghost use Rattle.step.specs.Calls.{eventOf};
+ghost use Rattle.step.specs.Answers.{answerPaper, answerOf, runPaper};
 ghost use Rattle.network.specs.Answers.{offerOf, runOf, entryValues};
 ghost use Rattle.network.specs.Network.{fresh};
 ghost use Rattle.network.specs.Padded.{zeroState, pad, freshOf};
@@ -82,7 +85,8 @@ impl NetworkState {
 
     // The state before the first event: the start state, the initial values, no calls, no checkers.
     pub fn fresh(s: &[u8]) -> Fresh
-        ensures { λ r. ⌜ r ≡ freshOf (now (s .entry)) ⌝ }
+        ensures { λ r. ⌜ readingPaper (r .reading) ≡ answer (reading networkLayout (now (s .entry))) ⌝ }
+        ensures { λ r. ⌜ r .state ≡ freshOf (now (s .entry)) ⌝ }
     {
         match sheet::read_network(s) {
             Reading::Accepted => Fresh {
@@ -112,7 +116,8 @@ impl NetworkState {
 // Offers one event to a state on a network: the reading refusals, 9 to 15, or taken. A refused event
 // leaves the state as it was.
 pub fn offer(s: &[u8], state: NetworkState, event: Record, values: &[u32]) -> Offered
-    ensures { λ r. ⌜ r ≡ offerOf (now (s .entry)) state (eventOf event (now (values .entry))) ⌝ }
+    ensures { λ r. ⌜ answerPaper (r .answer) ≡ answerOf (offerOf (now (s .entry)) state (eventOf event (now (values .entry))) .answer) ⌝ }
+    ensures { λ r. ⌜ r .state ≡ offerOf (now (s .entry)) state (eventOf event (now (values .entry))) .state ⌝ }
 {
     let mut plan = [engine::ABSENT; engine::PLAN];
     match engine::prepare_network(s, &mut plan) {
@@ -126,7 +131,7 @@ pub fn offer(s: &[u8], state: NetworkState, event: Record, values: &[u32]) -> Of
 
 // Runs a log from the fresh state of a network.
 pub fn run(s: &[u8], log: &[u8]) -> RunAnswer
-    ensures { λ r. ⌜ r ≡ runOf (now (s .entry)) (now (log .entry)) ⌝ }
+    ensures { λ r. ⌜ runPaper r ≡ runOf (now (s .entry)) (now (log .entry)) ⌝ }
 {
     engine::run_network(s, log)
 }

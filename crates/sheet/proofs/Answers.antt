@@ -1,48 +1,51 @@
--- From an answer of reading bytes or a log back to its number. Assumes nothing.
+-- From the words for what reading answers back to its number, and to the answer. Assumes nothing.
 use mathlib.Core.Path.{_≡_, refl, sym, ap, _∙_}
-use mathlib.Core.Bool.{Bool, true, false, false≢true}
 use Prim.Native.Nat.{ℕ, zero, suc}
+use native.Mathlib.Omega.{arith}
 use Rattle.sheet.specs.declared.Reading.{Reading}
 use Rattle.sheet.specs.declared.Reading.the-variants.{Accepted, Refused}
 use Rattle.sheet.specs.declared.LogReading.{LogReading}
 use Rattle.sheet.specs.declared.LogReading.the-variants as log
-use Rattle.sheet.specs.Answer.{answer, logAnswer}
+use Rattle.sheet.specs.Answer.{Read, accepted, refused, readingPaper, logPaper, readOf, answer}
 
-abbrev isRefused : Reading → Bool
-isRefused Accepted = false
-isRefused (Refused n) = true
+-- the number that a word refuses with, one more where it has one
+abbrev numbered : {A : Type 0} → Read A → ℕ
+numbered (accepted a) = 0
+numbered (refused n) = suc n
 
-module _ (n : ℕ) (r : Reading) (e : r ≡ answer n) where
-  pub answer-accepted : r ≡ Accepted → n ≡ 0
-  answer-accepted h = go n (sym e ∙ h)
-    where
-      go : (k : ℕ) → answer k ≡ Accepted → k ≡ 0
-      go zero f = refl
-      go (suc k) f = absurd (false≢true (sym (ap isRefused f)))
+module _ {A : Type 0} (a b : A) where
+  accepted-zero : (n : ℕ) → readOf n a ≡ accepted b → n ≡ 0
+  accepted-zero zero e = refl
+  accepted-zero (suc n) e = absurd (omega (arith, ap numbered e))
 
   -- the number that was refused, one more than another
-  pub answer-refused : (m : ℕ) → r ≡ Refused m → (k : ℕ) × (n ≡ suc k) × (Refused m ≡ Refused (suc k))
-  answer-refused m h = go n (sym e ∙ h)
-    where
-      go : (j : ℕ) → answer j ≡ Refused m → (k : ℕ) × (j ≡ suc k) × (Refused m ≡ Refused (suc k))
-      go zero f = absurd (false≢true (ap isRefused f))
-      go (suc j) f = (j, refl, sym f)
+  refused-suc : (n m : ℕ) → readOf n a ≡ refused m → (k : ℕ) × (n ≡ suc k) × (m ≡ suc k)
+  refused-suc zero m e = absurd (omega (arith, ap numbered e))
+  refused-suc (suc n) m e = (n, refl, omega (arith, ap numbered e))
 
-abbrev isRecords : LogReading → Bool
-isRecords (log.Records n) = true
-isRecords (log.Refused n) = false
+module _ (n : ℕ) (r : Reading) (e : readingPaper r ≡ answer n) where
+  pub answer-accepted : r ≡ Accepted → n ≡ 0
+  answer-accepted h = accepted-zero tt tt n (sym e ∙ ap readingPaper h)
 
-module _ (n k : ℕ) (r : LogReading) (e : r ≡ logAnswer n k) where
+  pub answer-refused : (m : ℕ) → r ≡ Refused m → (k : ℕ) × (n ≡ suc k) × (m ≡ suc k)
+  answer-refused m h = refused-suc tt tt n m (sym e ∙ ap readingPaper h)
+
+module _ (n k : ℕ) (r : LogReading) (e : logPaper r ≡ readOf n k) where
   pub log-read : (m : ℕ) → r ≡ log.Records m → n ≡ 0
-  log-read m h = go n (sym e ∙ h)
-    where
-      go : (j : ℕ) → logAnswer j k ≡ log.Records m → j ≡ 0
-      go zero f = refl
-      go (suc j) f = absurd (false≢true (ap isRecords f))
+  log-read m h = accepted-zero k m n (sym e ∙ ap logPaper h)
 
-  pub log-refused : (m : ℕ) → r ≡ log.Refused m → (j : ℕ) × (n ≡ suc j) × (log.Refused m ≡ log.Refused (suc j))
-  log-refused m h = go n (sym e ∙ h)
-    where
-      go : (i : ℕ) → logAnswer i k ≡ log.Refused m → (j : ℕ) × (i ≡ suc j) × (log.Refused m ≡ log.Refused (suc j))
-      go zero f = absurd (false≢true (sym (ap isRecords f)))
-      go (suc i) f = (i, refl, sym f)
+  pub log-refused : (m : ℕ) → r ≡ log.Refused m → (j : ℕ) × (n ≡ suc j) × (m ≡ suc j)
+  log-refused m h = refused-suc k k n m (sym e ∙ ap logPaper h)
+
+-- Different answers have different words.
+pub reading-injective : (a b : Reading) → readingPaper a ≡ readingPaper b → a ≡ b
+reading-injective Accepted Accepted e = refl
+reading-injective Accepted (Refused m) e = absurd (omega (arith, ap numbered e))
+reading-injective (Refused n) Accepted e = absurd (omega (arith, ap numbered e))
+reading-injective (Refused n) (Refused m) e = ap Refused (omega (arith, ap numbered e))
+
+pub log-injective : (a b : LogReading) → logPaper a ≡ logPaper b → a ≡ b
+log-injective (log.Records n) (log.Records m) e = ap log.Records (cc)
+log-injective (log.Records n) (log.Refused m) e = absurd (omega (arith, ap numbered e))
+log-injective (log.Refused n) (log.Records m) e = absurd (omega (arith, ap numbered e))
+log-injective (log.Refused n) (log.Refused m) e = ap log.Refused (omega (arith, ap numbered e))

@@ -14,15 +14,26 @@ use Rattle.sheet.specs.Table.{starts, fit}
 use Rattle.sheet.specs.Decode.{wide, textForm, conditionsIn, actionsIn, transitionsIn, lastIn, conditionsAt, actionsAt, transitionsAt, lastAt}
 use Rattle.sheet.specs.Reading.{Layout}
 
--- "accepted, or the first that applies"; 0 stands for none
-abbrev pub answer : ℕ → Reading
-answer zero = sheet.Accepted
-answer (suc n) = sheet.Refused (suc n)
+-- The paper's words for what reading answers: "accepted, or the first that applies"; of a log, with how many records there are.
+pub data Read (A : Type 0) : Type 0 where
+  accepted : A → Read A
+  refused : ℕ → Read A
 
--- of a log: the refusal, or else how many records there are
-abbrev pub logAnswer : ℕ → ℕ → LogReading
-logAnswer zero records = log.Records records
-logAnswer (suc n) records = log.Refused (suc n)
+abbrev pub readingPaper : Reading → Read (Unit {0})
+readingPaper sheet.Accepted = accepted tt
+readingPaper (sheet.Refused n) = refused n
+
+abbrev pub logPaper : LogReading → Read ℕ
+logPaper (log.Records n) = accepted n
+logPaper (log.Refused n) = refused n
+
+-- by the number of the refusal; 0 stands for none
+abbrev pub readOf : {A : Type 0} → ℕ → A → Read A
+readOf zero a = accepted a
+readOf (suc n) a = refused (suc n)
+
+abbrev pub answer : ℕ → Read (Unit {0})
+answer n = readOf n tt
 
 -- "3: states Q .. 13: triples"
 abbrev pub headerOf : List ℕ → Header

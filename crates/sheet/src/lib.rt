@@ -9,7 +9,7 @@ ghost use Rattle.sheet.specs.Table.{fit, table};
 ghost use Rattle.sheet.specs.Decode.{wordForm, wide, textForm, transitionOf, tripleForm, pairForm, templateForm};
 ghost use Rattle.sheet.specs.Reading.{isBad, sheetLayout, networkLayout, reading};
 ghost use Rattle.sheet.specs.Log.{logReading, recordsIn};
-ghost use Rattle.sheet.specs.Answer.{answer, headerOf, placesOf, logAnswer, recordOf};
+ghost use Rattle.sheet.specs.Answer.{readingPaper, answer, headerOf, placesOf, logPaper, readOf, recordOf};
 
 mod bytes;
 mod formed;
@@ -101,14 +101,14 @@ pub struct Record {
 
 // Reads a sheet: accepted, or the first of refusals 1 to 8 that applies.
 pub fn read_sheet(s: &[u8]) -> Reading
-    ensures { λ r. ⌜ r ≡ answer (reading sheetLayout (now (s .entry))) ⌝ }
+    ensures { λ r. ⌜ readingPaper r ≡ answer (reading sheetLayout (now (s .entry))) ⌝ }
 {
     read::answer(read::sheet_refusal(s))
 }
 
 // Reads a network: accepted, or the first of refusals 1 to 7 that applies.
 pub fn read_network(s: &[u8]) -> Reading
-    ensures { λ r. ⌜ r ≡ answer (reading networkLayout (now (s .entry))) ⌝ }
+    ensures { λ r. ⌜ readingPaper r ≡ answer (reading networkLayout (now (s .entry))) ⌝ }
 {
     read::answer(read::network_refusal(s))
 }
@@ -219,7 +219,7 @@ pub fn template_at(s: &[u8], at: u32) -> Template
 
 // Reads a log for so many program variables.
 pub fn read_log(s: &[u8], programs: u8) -> LogReading
-    ensures { λ r. ⌜ r ≡ logAnswer (logReading programs (now (s .entry))) (recordsIn programs (now (s .entry))) ⌝ }
+    ensures { λ r. ⌜ logPaper r ≡ readOf (logReading programs (now (s .entry))) (recordsIn programs (now (s .entry))) ⌝ }
 {
     log::read(s, bytes::wide(programs))
 }

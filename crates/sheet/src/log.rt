@@ -6,7 +6,7 @@ ghost use lib.ListN.{drop};
 ghost use Rattle.sheet.specs.Table.{fit, table};
 ghost use Rattle.sheet.specs.Decode.{wordForm};
 ghost use Rattle.sheet.specs.Log.{logReading, recordsIn};
-ghost use Rattle.sheet.specs.Answer.{logAnswer, recordOf};
+ghost use Rattle.sheet.specs.Answer.{logPaper, readOf, recordOf};
 use crate::LogReading;
 use crate::Record;
 use crate::bytes;
@@ -17,7 +17,7 @@ use crate::bytes::place;
 
 pub(crate) fn read(s: &[u8], programs: usize) -> LogReading
     requires { ⌜ programs ≤ 255 ⌝ }
-    ensures { λ r. ⌜ r ≡ logAnswer (logReading programs (now (s .entry))) (recordsIn programs (now (s .entry))) ⌝ }
+    ensures { λ r. ⌜ logPaper r ≡ readOf (logReading programs (now (s .entry))) (recordsIn programs (now (s .entry))) ⌝ }
 {
     let said = place(bytes::word(s, 0));
     let version = number(s, 4);

@@ -5,7 +5,7 @@ ghost use Prim.Native.Nat.{_≤_};
 ghost use Rattle.sheet.specs.Bytes.{byte};
 ghost use Rattle.sheet.specs.Decode.{commonOf, conditionsAt, actionsAt};
 ghost use Rattle.sheet.specs.Reading.{sheetLayout, networkLayout, lentIn, countsOf, counted, formed, ranged, roled, transitionsOf, lastOf, reading};
-ghost use Rattle.sheet.specs.Answer.{answer};
+ghost use Rattle.sheet.specs.Answer.{readingPaper, answer};
 ghost use Rattle.sheet.specs.Walk.{Finds};
 use crate::Counts;
 use crate::Reading;
@@ -169,7 +169,7 @@ pub(crate) fn network_refusal(s: &[u8]) -> u8
 
 // 0 stands for an accepted input.
 pub(crate) fn answer(n: u8) -> Reading
-    ensures { λ r. ⌜ r ≡ answer n ⌝ }
+    ensures { λ r. ⌜ readingPaper r ≡ answer n ⌝ }
 {
     if n == 0 {
         Reading::Accepted

@@ -12,7 +12,7 @@ use Rattle.condition.specs.declared.Lent.{Lent}
 use Rattle.condition.specs.Tree.{Condition, Assignment, conditionNames, actionNames, isAtEntry}
 use Rattle.condition.specs.Parse.{parseCondition, parseAction}
 use Rattle.condition.specs.Meaning.{Environment, environment, lent, holds, performed}
-use Rattle.condition.specs.Answer.{sized, actionSized, whether, conditionWhich, actionWhich, actionOutcome, runOutcome, actionPaper}
+use Rattle.condition.specs.Answer.{sized, actionSized, whether, conditionWhich, actionWhich, actionOutcome, runOutcome, performedOn}
 use Rattle.condition.proofs.Naming.{unkept, entry-narrow, action-entry-narrow}
 use Rattle.sheet.specs.declared.Transition.{Transition}
 use Rattle.sheet.specs.Parts.{Paired}
@@ -67,7 +67,7 @@ module _ {L : Lent} {t : List ℕ} {r : List Assignment} (g : Runs L t r) where
   run-without-entry : actionNames r isAtEntry ≡ false → Runs (unkept L) t r
   run-without-entry h = record { fits = g .fits; tree = rw h at (action-entry-narrow L t (g .tree)) }
 
-  run-outcome : (E : Environment) (count : ℕ) (variables : List ℕ) → lent E ≡ L → actionPaper count variables (actionOutcome t E) .variables ≡ performed r E ++ drop count variables
+  run-outcome : (E : Environment) (count : ℕ) (variables : List ℕ) → lent E ≡ L → performedOn count variables (actionOutcome t E) ≡ performed r E ++ drop count variables
   unfolding actionOutcome runOutcome
   run-outcome E count variables h = rw (h, g .fits, g .tree)
 

@@ -17,11 +17,11 @@ use Rattle.sheet.proofs.Tests.{and-iff, leb-iff, eqb-iff}
 use Rattle.step.specs.declared.Verdict.{Verdict}
 use Rattle.step.specs.declared.Outcome.{Outcome}
 use Rattle.step.specs.declared.Outcome.the-variants.{Open, Judged}
-use Rattle.step.specs.declared.RunAnswer.{RunAnswer}
-use Rattle.step.specs.declared.RunAnswer.the-variants.{Violated, RefusedAt}
+use Rattle.step.specs.declared.RunAnswer.the-variants.{Violated}
 use Rattle.step.specs.Verdicts.{outcomeOf, verdictIn}
 use Rattle.step.specs.Runs.{Offered, Ran, unlessJudged, unlessRefusedAt, runFrom}
-use Rattle.step.specs.Answers.{ranAnswer}
+use Rattle.step.specs.Answers as words
+use Rattle.step.specs.Answers.{Ending, runPaper, ranAnswer}
 use Rattle.step.proofs.Rooms.{verdict-outcome}
 
 -- What reading a log leaves: it says its length, and its records fill it.
@@ -49,8 +49,8 @@ pub record Engine (S W : Type 0) : Type 0 where
   pub pad : S → W
   pub view : W → S
   pub outcome : W → Outcome
-  pub ends : W → RunAnswer
-  pub endsIn : S → RunAnswer
+  pub ends : W → Ending
+  pub endsIn : S → Ending
 
 -- What is known of it: the fresh state is sound and an event keeps a state sound, and what is held shows what is defined.
 pub record Works {S W : Type 0} (E : Engine S W) : Type 0 where
@@ -137,10 +137,10 @@ module _ {S W : Type 0} {E : Engine S W} (works : Works E) (P : ℕ) (log : List
         refused : E .refusal (E .view w) e ≡ E .offer (g .σ) e .answer
         refused = ap (λ (σ : S). E .refusal σ e) follow-seen ∙ sym (works .answers (g .σ) e)
 
-        pub follow-refused : (n : ℕ) → n ≡ E .refusal (E .view w) e → (n ≡ 0 → ⊥) → RefusedAt n (i + 1) ≡ ranAnswer (E .endsIn) (E .run (eventsOf P log))
+        pub follow-refused : (n : ℕ) → n ≡ E .refusal (E .view w) e → (n ≡ 0 → ⊥) → words.refusedAt n (i + 1) ≡ ranAnswer (E .endsIn) (E .run (eventsOf P log))
         follow-refused n f k = go n k (f ∙ refused)
           where
-            go : (m : ℕ) → (m ≡ 0 → ⊥) → m ≡ E .offer (g .σ) e .answer → RefusedAt m (i + 1) ≡ ranAnswer (E .endsIn) whole
+            go : (m : ℕ) → (m ≡ 0 → ⊥) → m ≡ E .offer (g .σ) e .answer → words.refusedAt m (i + 1) ≡ ranAnswer (E .endsIn) whole
             go zero k f = absurd (k refl)
             go (suc m) k f = ap (ranAnswer (E .endsIn)) (rw (← f) at unfolded)
 
@@ -160,7 +160,7 @@ module _ {S W : Type 0} {E : Engine S W} (works : Works E) (P : ℕ) (log : List
           unjudged : E .outcome v ≡ Open → E .verdict to ≡ none
           unjudged k = sym (verdict-outcome (E .verdict to)) ∙ ap verdictIn (sym shown ∙ k)
 
-          pub follow-violated : (x : Verdict) → E .outcome v ≡ Judged x → Violated x ≡ ranAnswer (E .endsIn) (E .run (eventsOf P log))
+          pub follow-violated : (x : Verdict) → E .outcome v ≡ Judged x → runPaper (Violated x) ≡ ranAnswer (E .endsIn) (E .run (eventsOf P log))
           follow-violated x k = ap (ranAnswer (E .endsIn)) (rw (taken, judged x k) at unfolded)
 
           pub follow-next : E .outcome v ≡ Open → (size : ℕ) → size ≡ recordSize P → Following E P log v (i + 1) (at + size) end

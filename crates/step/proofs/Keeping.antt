@@ -14,9 +14,9 @@ use lib.Seq.{getD-take}
 use Rattle.sheet.specs.Table.{every, fit}
 use Rattle.sheet.proofs.Tables.{and-parts, and-both}
 use Rattle.sheet.proofs.Tests.{and-iff, not-iff}
-use Rattle.step.specs.Lists.{first, keep, any, lesser, least, distinct, placeOf}
+use Rattle.step.specs.Lists.{Among, first, keep, any, lesser, least, distinct, placeOf}
 use Rattle.step.specs.Walk.{leastOf, numberIn}
-use Rattle.step.proofs.Lists.{Among, any-map, least-some}
+use Rattle.step.proofs.Lists.{any-map, least-some}
 use Rattle.step.proofs.Filling.{keep-none-left, keep-here, keep-not-here}
 use Rattle.step.proofs.Turns.{distinct-snoc}
 use Rattle.step.proofs.Rooms.{take-fitted}

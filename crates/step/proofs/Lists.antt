@@ -10,15 +10,10 @@ use native.Mathlib.Nat.{le-of-suc-le-suc}
 use lib.Dec.{leb}
 use lib.ListN.{length, getD}
 use borrow.Author.Tests.{leb-true, leb-false}
-use Rattle.step.specs.Lists.{first, keep, any, numbers, lesser, least}
+use Rattle.step.specs.Lists.{Among, first, keep, any, numbers, lesser, least}
 
 pub none-some : {A : Type 0} {x : A} → none ≡ some x → ⊥
 none-some e = let z : _≡_ {A = ℕ} 0 1 = cc in omega arith
-
--- to be one of a list's elements
-abbrev pub Among : {A : Type 0} → A → List A → Type 0
-Among x [] = ⊥
-Among x (y ∷ l) = (x ≡ y) ⊎ Among x l
 
 -- the first element
 abbrev pub headOf : {A : Type 0} → List A → Option A

@@ -16,11 +16,11 @@ use Rattle.sheet.specs.Decode.{commonOf}
 use Rattle.sheet.specs.Reading.{isBad, lentIn, transitionsOf, sheetLayout, networkLayout}
 use Rattle.sheet.specs.Log.{Event}
 use Rattle.sheet.proofs.Accepted.{Accepted, GoodTransition, sheet-transition, network-transition}
-use Rattle.step.specs.Lists.{first}
+use Rattle.step.specs.Lists.{Among, first}
 use Rattle.step.specs.Meets.{acted, performedBy}
 use Rattle.step.specs.Moves.{Configuration, seen, enabled, after, moved}
 use Rattle.step.specs.Verdicts.{causeOf, placed, verdict, ifThere, verdictFits}
-use Rattle.step.proofs.Lists.{Among, first-passes}
+use Rattle.step.proofs.Lists.{first-passes}
 use Rattle.step.proofs.Keeping.{among-at}
 use Rattle.step.proofs.Bridge.{noTransition, noPaired}
 

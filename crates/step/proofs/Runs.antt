@@ -12,14 +12,10 @@ use Rattle.sheet.specs.declared.LogReading.the-variants as log
 use Rattle.sheet.specs.Bytes.{byte}
 use Rattle.sheet.specs.Reading.{orElse}
 use Rattle.sheet.specs.Log.{Event, logReading, recordsIn}
-use Rattle.sheet.specs.Answer.{answer, logAnswer, headerOf}
+use Rattle.sheet.specs.Answer.{readingPaper, logPaper, readOf, answer, headerOf}
 use Rattle.sheet.proofs.Answers.{answer-refused, log-read, log-refused}
-use Rattle.step.specs.declared.Answer.{Answer}
-use Rattle.step.specs.declared.Answer.the-variants.{Taken, Refused}
-use Rattle.step.specs.declared.RunAnswer.{RunAnswer}
-use Rattle.step.specs.declared.RunAnswer.the-variants as run
 use Rattle.step.specs.declared.Verdict.{Verdict}
-use Rattle.step.specs.Answers.{answerOf, unlessTaken, unlessRefused}
+use Rattle.step.specs.Answers.{Ending, declined, refused, answerOf, unlessRefused}
 use Rattle.step.specs.Runs.{Offered, offered, violated, refusedAt, runFrom}
 
 -- What an event comes to: its refusal's number, and a state of which holds what held before it and what holds after it where it is taken.
@@ -31,47 +27,35 @@ pub offered-keeps : {S : Type 0} (p : S → Bool) (n : ℕ) (σ τ : S) → p σ
 offered-keeps p zero σ τ h k = k refl
 offered-keeps p (suc n) σ τ h k = h
 
--- a refused event answers its number and the state as it was
-pub refused-with : {W A : Type 0} (f : Answer → W → A) (n : ℕ) → (n ≡ 0 → ⊥) → (w τ : W) → f (Refused n) w ≡ f (answerOf n) (unlessTaken n w τ)
-refused-with f zero k w τ = absurd (k refl)
-refused-with f (suc n) k w τ = refl
+-- a refused event: its number in words, and the state as it was
+pub refused-with : {W : Type 0} (n : ℕ) → (n ≡ 0 → ⊥) → (w τ : W) → (declined n ≡ answerOf (offered n w τ .answer)) × (w ≡ offered n w τ .state)
+refused-with zero k w τ = absurd (k refl)
+refused-with (suc n) k w τ = (refl, refl)
 
 -- bytes that are not read, and a log that is not
-abbrev asOffered : Reading → Answer
-asOffered sheet.Accepted = Taken
-asOffered (sheet.Refused n) = Refused n
-
-abbrev asRun : Reading → RunAnswer
-asRun sheet.Accepted = run.Refused 0
-asRun (sheet.Refused n) = run.Refused n
-
-abbrev asLogged : LogReading → RunAnswer
-asLogged (log.Records n) = run.Refused 0
-asLogged (log.Refused n) = run.Refused n
-
-module _ (n : ℕ) (r : Reading) (e : r ≡ answer n) (m : ℕ) (h : r ≡ sheet.Refused m) where
-  pub unread-offer : {W A : Type 0} (f : Answer → W → A) (rest : ℕ) (w τ : W) → f (Refused m) w ≡ f (answerOf (orElse n rest)) (unlessTaken (orElse n rest) w τ)
-  unread-offer f rest w τ =
+module _ (n : ℕ) (r : Reading) (e : readingPaper r ≡ answer n) (m : ℕ) (h : r ≡ sheet.Refused m) where
+  pub unread-offer : {W : Type 0} (rest : ℕ) (w τ : W) → (declined m ≡ answerOf (offered (orElse n rest) w τ .answer)) × (w ≡ offered (orElse n rest) w τ .state)
+  unread-offer rest w τ =
       let (k, g, x) = answer-refused n r e m h in
-      rw g (ap (λ (y : Reading). f (asOffered y) w) x)
+      rw g (ap declined x, refl)
 
-  pub unread-run : (rest : RunAnswer) → run.Refused m ≡ unlessRefused n rest
+  pub unread-run : (rest : Ending) → refused m ≡ unlessRefused n rest
   unread-run rest =
       let (k, g, x) = answer-refused n r e m h in
-      rw g (ap asRun x)
+      rw g (ap refused x)
 
 -- by the header that is lent
-module _ (s l : List ℕ) (h : Header) (eh : h ≡ headerOf s) (r : LogReading) (er : r ≡ logAnswer (logReading (h .programs) l) (recordsIn (h .programs) l)) where
-  answered : r ≡ logAnswer (logReading (byte s 5) l) (recordsIn (byte s 5) l)
-  answered = er ∙ ap (λ (x : Header). logAnswer (logReading (x .programs) l) (recordsIn (x .programs) l)) eh
+module _ (s l : List ℕ) (h : Header) (eh : h ≡ headerOf s) (r : LogReading) (er : logPaper r ≡ readOf (logReading (h .programs) l) (recordsIn (h .programs) l)) where
+  answered : logPaper r ≡ readOf (logReading (byte s 5) l) (recordsIn (byte s 5) l)
+  answered = er ∙ ap (λ (x : Header). readOf (logReading (x .programs) l) (recordsIn (x .programs) l)) eh
 
   pub log-accepted : (m : ℕ) → r ≡ log.Records m → logReading (byte s 5) l ≡ 0
   log-accepted m e = log-read (logReading (byte s 5) l) (recordsIn (byte s 5) l) r answered m e
 
-  pub unlogged-run : (m : ℕ) → r ≡ log.Refused m → (rest : RunAnswer) → run.Refused m ≡ unlessRefused (logReading (byte s 5) l) rest
+  pub unlogged-run : (m : ℕ) → r ≡ log.Refused m → (rest : Ending) → refused m ≡ unlessRefused (logReading (byte s 5) l) rest
   unlogged-run m e rest =
       let (j, g, x) = log-refused (logReading (byte s 5) l) (recordsIn (byte s 5) l) r answered m e in
-      rw g (ap asLogged x)
+      rw g (ap refused x)
 
 -- One turn of a run.
 module _ {S : Type 0} (offer : S → Event → Offered S) (verdict : S → Option Verdict) (i : ℕ) (σ : S) (e : Event) (es : List Event) where

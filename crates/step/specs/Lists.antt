@@ -1,9 +1,16 @@
 -- Lists: the first element that passes a test, those that pass it, the least of some numbers.
+use mathlib.Core.Path.{_≡_}
+use mathlib.Core.Logic.{_⊎_}
 use mathlib.Core.Bool.{Bool, true, false, not, cond, _&&_}
 use mathlib.Core.Option.{Option, none, some}
 use mathlib.Core.List.{List, [], _∷_}
 use Prim.Native.Nat.{ℕ, suc, min}
 use lib.Dec.{eqb}
+
+-- to be one of a list's elements
+abbrev pub Among : {A : Type 0} → A → List A → Type 0
+Among x [] = ⊥
+Among x (y ∷ l) = (x ≡ y) ⊎ Among x l
 
 unfoldable pub first : {A : Type 0} → (A → Bool) → List A → Option A
 first p [] = none

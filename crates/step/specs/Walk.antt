@@ -6,7 +6,7 @@ use Prim.Native.Nat.{ℕ, _+_, _*_, min}
 use lib.Dec.{ltb}
 use lib.ListN.{getD, take, drop}
 use Rattle.condition.specs.Meaning.{environment}
-use Rattle.condition.specs.Answer.{actionOutcome, actionPaper}
+use Rattle.condition.specs.Answer.{actionOutcome, performedOn}
 use Rattle.sheet.specs.declared.Transition.{Transition}
 use Rattle.sheet.specs.Bytes.{byte}
 use Rattle.sheet.specs.Table.{Form}
@@ -15,7 +15,7 @@ use Rattle.step.specs.Calls as Calls
 
 -- the variables after an action by its number
 abbrev pub actedAt : List ℕ → List ℕ → ℕ → List ℕ → ℕ → List ℕ → List ℕ
-actedAt s index i program count variables = cond (ltb i 161) (actionPaper count variables (actionOutcome (textForm false .value (drop (getD index i 0) s)) (environment program (take count variables) [])) .variables) variables
+actedAt s index i program count variables = cond (ltb i 161) (performedOn count variables (actionOutcome (textForm false .value (drop (getD index i 0) s)) (environment program (take count variables) []))) variables
 
 -- the least of some numbers and a first one
 unfoldable pub leastOf : ℕ → List ℕ → ℕ

@@ -9,7 +9,7 @@ use Rattle.sheet.specs.Decode.{sheetOf}
 use Rattle.sheet.specs.Encode.{encode}
 use Rattle.sheet.specs.Reading.{unless, orElse, reading, sheetLayout}
 use Rattle.translation.specs.declared.Translated.{Translated}
-use Rattle.translation.specs.declared.Translated.the-variants.{Written, Refused}
+use Rattle.translation.specs.declared.Translated.the-variants as answer
 use Rattle.translation.specs.Translate.{translate}
 use Rattle.translation.specs.Card.{joinedConditions, card}
 
@@ -21,16 +21,25 @@ networkBytes s = encode false (translate (sheetOf s))
 unfoldable pub translateRefusal : List ℕ → List ℕ → ℕ
 translateRefusal s o = orElse (reading sheetLayout s) (unless (leb (length (networkBytes s)) (length o)) 19 0)
 
-abbrev pub translatedWith : ℕ → ℕ → Translated
-translatedWith zero size = Written size
-translatedWith (suc n) size = Refused (suc n)
+-- The paper's words for what translating answers: written, of so many bytes, or the refusal's number.
+pub data Writing : Type 0 where
+  written : ℕ → Writing
+  refused : ℕ → Writing
+
+abbrev pub translatedPaper : Translated → Writing
+translatedPaper (answer.Written n) = written n
+translatedPaper (answer.Refused n) = refused n
+
+abbrev pub translatedWith : ℕ → ℕ → Writing
+translatedWith zero size = written size
+translatedWith (suc n) size = refused (suc n)
 
 -- "A refusal writes nothing; success writes the network at the front and no other byte."
 abbrev pub bufferWith : ℕ → List ℕ → List ℕ → List ℕ
 bufferWith zero net o = net ++ drop (length net) o
 bufferWith (suc n) net o = o
 
-unfoldable pub translatedOf : List ℕ → List ℕ → Translated
+unfoldable pub translatedOf : List ℕ → List ℕ → Writing
 translatedOf s o = translatedWith (translateRefusal s o) (length (networkBytes s))
 
 unfoldable pub bufferOf : List ℕ → List ℕ → List ℕ
@@ -48,7 +57,7 @@ cardFits s = every (λ t. leb (length t) 1024) (joinedConditions (translate (she
 unfoldable pub cardRefusal : List ℕ → List ℕ → ℕ
 cardRefusal s o = orElse (reading sheetLayout s) (unless (cardFits s) 21 (unless (leb (length (cardBytes s)) (length o)) 19 0))
 
-unfoldable pub cardOf : List ℕ → List ℕ → Translated
+unfoldable pub cardOf : List ℕ → List ℕ → Writing
 cardOf s o = translatedWith (cardRefusal s o) (length (cardBytes s))
 
 unfoldable pub cardBufferOf : List ℕ → List ℕ → List ℕ

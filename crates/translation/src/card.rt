@@ -12,7 +12,7 @@ ghost use Rattle.sheet.specs.Decode.{textForm, pairedForm, conditionsIn, transi
 ghost use Rattle.sheet.specs.Encode.{textBytes, pairedBytes, written, tableBytes};
 ghost use Rattle.sheet.specs.Reading.{reading, sheetLayout, networkLayout, conditionIn};
 ghost use Rattle.translation.specs.Card.{isOf, joinedText, joinedConditions, guardedBy, guardedFrom, separated};
-ghost use Rattle.translation.specs.Answer.{translatedWith, bufferWith, cardOf, cardBufferOf};
+ghost use Rattle.translation.specs.Answer.{translatedPaper, translatedWith, bufferWith, cardOf, cardBufferOf};
 ghost use Rattle.translation.specs.Walk.{Room, Writes};
 ghost use Rattle.translation.specs.CardWalk.{Narrow, PreparedNetwork, earlierIn, WritesWide, separatedBytes, joinedShort, separateRefusal};
 use crate::Translated;
@@ -235,7 +235,7 @@ fn fill(n: &[u8], h: Header, index: &[u32; 161], from: u32, last: u32, size: u16
 // Writes the network for the card from an accepted network of version 2.
 fn separate(n: &[u8], out: &mut [u8]) -> Translated
     requires { ⌜ (reading networkLayout (now n) ≡ 0) × (Rattle.sheet.specs.Decode.wide (now n) ≡ false) ⌝ }
-    ensures { λ r. ⌜ (r ≡ translatedWith (separateRefusal (now (n .entry)) (now (out .entry))) (length (separatedBytes (now (n .entry))))) × (now (out .exit) ≡ bufferWith (separateRefusal (now (n .entry)) (now (out .entry))) (separatedBytes (now (n .entry))) (now (out .entry))) ⌝ }
+    ensures { λ r. ⌜ (translatedPaper r ≡ translatedWith (separateRefusal (now (n .entry)) (now (out .entry))) (length (separatedBytes (now (n .entry))))) × (now (out .exit) ≡ bufferWith (separateRefusal (now (n .entry)) (now (out .entry))) (separatedBytes (now (n .entry))) (now (out .entry))) ⌝ }
 {
     let h = sheet::header_of(n);
     let p = sheet::network_places(n);
@@ -257,7 +257,7 @@ fn separate(n: &[u8], out: &mut [u8]) -> Translated
 // Writes the network for the card from an accepted sheet.
 pub(crate) fn translate(s: &[u8], out: &mut [u8]) -> Translated
     requires { ⌜ reading sheetLayout (now s) ≡ 0 ⌝ }
-    ensures { λ r. ⌜ (r ≡ cardOf (now (s .entry)) (now (out .entry))) × (now (out .exit) ≡ cardBufferOf (now (s .entry)) (now (out .entry))) ⌝ }
+    ensures { λ r. ⌜ (translatedPaper r ≡ cardOf (now (s .entry)) (now (out .entry))) × (now (out .exit) ≡ cardBufferOf (now (s .entry)) (now (out .entry))) ⌝ }
 {
     let mut room = [0u8; 8192];
     match write::translate(s, &mut room) {

@@ -10,7 +10,7 @@ ghost use Rattle.sheet.specs.Decode.{wordForm, textForm, transitionOf};
 ghost use Rattle.sheet.specs.Encode.{halfBytes, wordBytes, pairBytes, pairedBytes, written};
 ghost use Rattle.translation.specs.Translate.{pairsFrom, joined};
 ghost use Rattle.sheet.specs.Reading.{reading, sheetLayout};
-ghost use Rattle.translation.specs.Answer.{networkBytes, translatedOf, bufferOf};
+ghost use Rattle.translation.specs.Answer.{networkBytes, translatedPaper, translatedOf, bufferOf};
 ghost use Rattle.translation.specs.Walk.{Room, Prepared, Measures, Writes, WritesTables, WritesAdded, textsAt, WritesTexts, triplesAt, countedPairs, baseBytes, copiedAt, backAt, copiedBytes, addedAt, templatesAt, headerAt};
 use crate::Translated;
 use sheet::Header;
@@ -347,7 +347,7 @@ fn fill(s: &[u8], h: Header, f: Frame, from: u32, size: Spot, out: &mut [u8])
 // Translates an accepted sheet.
 pub(crate) fn translate(s: &[u8], out: &mut [u8]) -> Translated
     requires { ⌜ reading sheetLayout (now s) ≡ 0 ⌝ }
-    ensures { λ r. ⌜ (r ≡ translatedOf (now (s .entry)) (now (out .entry))) × (now (out .exit) ≡ bufferOf (now (s .entry)) (now (out .entry))) ⌝ }
+    ensures { λ r. ⌜ (translatedPaper r ≡ translatedOf (now (s .entry)) (now (out .entry))) × (now (out .exit) ≡ bufferOf (now (s .entry)) (now (out .entry))) ⌝ }
 {
     let h = sheet::header_of(s);
     let p = sheet::sheet_places(s);

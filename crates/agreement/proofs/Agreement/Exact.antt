@@ -1,10 +1,10 @@
 -- One living checker for each open call and armed triple, and no other. Assumes nothing.
 use mathlib.Core.Path.{_≡_, refl, sym, ap, subst, _∙_}
-use mathlib.Core.Logic.{inl}
+use mathlib.Core.Logic.{_⊎_, inl, inr}
 use mathlib.Core.Bool.{Bool, true, false, cond, _&&_}
 use mathlib.Core.Option.{Option, none, some}
-use mathlib.Core.List.{List, [], _∷_, _++_, map, append-nil, append-assoc}
-use Prim.Native.Nat.{ℕ, zero, suc, _≤_}
+use mathlib.Core.List.{List, [], _∷_, _++_, map}
+use Prim.Native.Nat.{ℕ, _≤_}
 use native.Mathlib.Omega.{arith}
 use borrow.Author.Tests.{eqb-true, eq-eqb, ne-eqb, ltb-true}
 use lib.Dec.{eqb, ltb}
@@ -13,27 +13,40 @@ use Rattle.sheet.specs.Parts.{Sheet}
 use Rattle.sheet.specs.Table.{every}
 use Rattle.sheet.specs.Log.{Event}
 use Rattle.sheet.proofs.Tables.{and-parts}
-use Rattle.step.specs.Lists.{first, keep, any, distinct}
-use Rattle.step.specs.Answers.{answerOf}
-use Rattle.step.proofs.Lists.{Among, none-some, kept-passes, passes-kept}
+use Rattle.sheet.proofs.Tests.{and-iff, not-iff}
+use Rattle.step.specs.Lists.{Among, first, keep, any, distinct}
+use Rattle.step.proofs.Lists.{any-map, none-some, kept-passes, passes-kept}
 use Rattle.step.proofs.Keeping.{every-among, keep-map, keep-both}
-use Rattle.step.proofs.Runs.{offered-answer}
 use Rattle.monitor.specs.Monitor as Monitor
 use Rattle.monitor.specs.Monitor.{Armed, ofNumber, initial}
 use Rattle.monitor.specs.Sound.{rising}
 use Rattle.monitor.specs.Published as Published
-use Rattle.monitor.specs.Demand.{Taken, more}
-use Rattle.monitor.proofs.Demand2.Traces.{opening, Opened}
+use Rattle.monitor.proofs.Demand2.Traces.{Leads, opening, Opened}
 use Rattle.monitor.proofs.Demand2.Calls.{held-opened, opened-held}
 use Rattle.monitor.proofs.Demand2.Broken.{Plain, armed-arms, arms-armed}
 use Rattle.monitor.proofs.States.Arming.{armed-rising}
 use Rattle.network.specs.declared.Checker.{Checker}
 use Rattle.network.specs.Network.{boundTo}
 use Rattle.network.specs.Grouped.{checker, rowOf}
-use Rattle.network.proofs.States.Created.{none-kept}
+use Rattle.network.proofs.States.Created.{none-kept, none-among}
 use Rattle.network.proofs.ByMachine.Bound.{bound-none, bound-first}
-use Rattle.agreement.specs.Demand.{Living, armedRow, living, follow, many, Due, takenOf, whenTaken}
+use Rattle.agreement.specs.Shown.{Living, armedRow, living}
+use Rattle.agreement.specs.Meant.{many, Due, Exactly}
 use Rattle.agreement.proofs.Agreement.Row.{row-own}
+
+among-append : {A : Type 0} (l m : List A) (x : A) → Among x (l ++ m) → Among x l ⊎ Among x m
+among-append [] m x h = inr h
+among-append (y ∷ l) m x (inl e) = inl (inl e)
+among-append (y ∷ l) m x (inr h) = either (among-append l m x h)
+  where
+    either : Among x l ⊎ Among x m → Among x (y ∷ l) ⊎ Among x m
+    either (inl k) = inl (inr k)
+    either (inr k) = inr k
+
+among-map : {A B : Type 0} (f : A → B) (l : List A) (y : B) → Among y (map f l) → (x : A) × Among x l × (y ≡ f x)
+among-map f [] y h = absurd h
+among-map f (x ∷ l) y (inl e) = (x, inl refl, e)
+among-map f (x ∷ l) y (inr h) = let (z, j, e) = among-map f l y h in (z, inr j, e)
 
 -- Of rising numbers each stands once.
 module _ (i : ℕ) where
@@ -98,34 +111,29 @@ module _ (n i : ℕ) (l : List Armed) (d : distinct (map (λ (a : Armed). a .cal
       go none e = rw (bound-none n l (none-any n l e))
       go (some a) e = rw (bound-first n l d a e) (ap length (keep-map (λ (h : Checker). eqb (h .template) i) (checker n) (a .armed)) ∙ length-map (keep (λ j. eqb j i) (a .armed)) (checker n))
 
--- The events of a list that are taken lead to its last state.
-module _ (S : Sheet) where
-  abbrev last : Monitor.State → List Event → Monitor.State
-  last σ es = follow (λ σ e. answerOf (Monitor.offer S σ e .answer)) (λ σ e. Monitor.offer S σ e .state) σ es .state
+-- A living checker is of a call that is open, and of a triple armed for it.
+row-among : (l : List Armed) (h : Living) → Among h (armedRow l) → (a : Armed) × Among a l × (h .number ≡ a .call .number) × Among (h .triple) (a .armed) × (h .entry ≡ a .call .kept)
+unfolding armedRow
+row-among [] h m = absurd m
+row-among (a ∷ l) h m = either (row-among l h) (among-append (map (λ i. record { number = a .call .number; triple = i; entry = a .call .kept }) (a .armed)) (armedRow l) h m)
+  where
+    either : (Among h (armedRow l) → (b : Armed) × Among b l × (h .number ≡ b .call .number) × Among (h .triple) (b .armed) × (h .entry ≡ b .call .kept))
+        → Among h (map (λ i. record { number = a .call .number; triple = i; entry = a .call .kept }) (a .armed)) ⊎ Among h (armedRow l)
+        → (b : Armed) × Among b (a ∷ l) × (h .number ≡ b .call .number) × Among (h .triple) (b .armed) × (h .entry ≡ b .call .kept)
+    either r (inl m) = let (i, j, e) = among-map (λ i. record { number = a .call .number; triple = i; entry = a .call .kept }) (a .armed) h m in (a, inl refl, ap (λ (x : Living). x .number) e, subst (λ (k : ℕ). Among k (a .armed)) (sym (ap (λ (x : Living). x .triple) e)) j, ap (λ (x : Living). x .entry) e)
+    either r (inr m) = let (b, j, e, f, g) = r m in (b, inr j, e, f, g)
 
-  module _ (σ : Monitor.State) (e : Event) where
-    free-answer : Monitor.offer S σ e .answer ≡ 0 → Monitor.refusal S σ e ≡ 0
-    unfolding Monitor.offer
-    free-answer z = sym (offered-answer (Monitor.refusal S σ e) σ _) ∙ z
-
-    refused-state : (m : ℕ) → Monitor.offer S σ e .answer ≡ suc m → Monitor.offer S σ e .state ≡ σ
-    unfolding Monitor.offer
-    refused-state m z = let r = sym (offered-answer (Monitor.refusal S σ e) σ _) ∙ z in rw r
-
-  pub taken-list : (es : List Event) (w : List Event) (σ : Monitor.State) → Taken S w σ → Taken S (w ++ takenOf S σ es) (last σ es)
-  unfolding takenOf follow
-  taken-list [] w σ t = subst (λ (u : List Event). Taken S u σ) (sym (append-nil w)) t
-  taken-list (e ∷ es) w σ t = go (Monitor.offer S σ e .answer) refl (taken-list es (w ++ e ∷ []) (Monitor.offer S σ e .state)) (taken-list es w (Monitor.offer S σ e .state))
-    where
-      go : (n : ℕ) → Monitor.offer S σ e .answer ≡ n
-          → (Taken S (w ++ e ∷ []) (Monitor.offer S σ e .state) → Taken S ((w ++ e ∷ []) ++ takenOf S (Monitor.offer S σ e .state) es) (last (Monitor.offer S σ e .state) es))
-          → (Taken S w (Monitor.offer S σ e .state) → Taken S (w ++ takenOf S (Monitor.offer S σ e .state) es) (last (Monitor.offer S σ e .state) es))
-          → Taken S (w ++ whenTaken n e (takenOf S (Monitor.offer S σ e .state) es)) (last (Monitor.offer S σ e .state) es)
-      go zero z r k = subst (λ (u : List Event). Taken S u (last (Monitor.offer S σ e .state) es)) (append-assoc w (e ∷ []) (takenOf S (Monitor.offer S σ e .state) es)) (r (more t e (free-answer σ e z)))
-      go (suc n) z r k = k (subst (Taken S w) (sym (refused-state σ e n z)) t)
+first-among : (l : List Armed) → distinct (map (λ (a : Armed). a .call .number) l) ≡ true → (a : Armed) → Among a l → first (ofNumber (a .call .number)) l ≡ some a
+unfolding first distinct
+first-among [] d a m = absurd m
+first-among (x ∷ l) d a (inl e) = rw (e, eq-eqb (x .call .number) (x .call .number) refl)
+first-among (x ∷ l) d a (inr m) =
+    let (i, j) = simp (and-iff, not-iff) at d in
+    let apart = none-among (λ (b : Armed). eqb (x .call .number) (b .call .number)) l (sym (any-map (eqb (x .call .number)) (λ (b : Armed). b .call .number) l) ∙ i) a m in
+    rw apart (first-among l j a m)
 
 -- A checker is due just where the call held under its number has the triple armed.
-module _ (S : Sheet) (plain : Plain S) {w : List Event} {σ : Monitor.State} (t : Taken S w σ) (n i : ℕ) where
+module _ (S : Sheet) (plain : Plain S) {w : List Event} {σ : Monitor.State} (t : Leads S w σ) (n i : ℕ) where
   due-held : Due S w n i → (a : Armed) × (first (ofNumber n) (σ .calls) ≡ some a) × (rising (a .armed) ≡ true) × Among i (a .armed)
   due-held d =
       let k = Published.reached S (d .w₁) in
@@ -144,21 +152,40 @@ module _ (S : Sheet) (plain : Plain S) {w : List Event} {σ : Monitor.State} (t 
   held-rising a h = let o = held-opened S t n a h in subst (λ (b : Armed). rising (b .armed) ≡ true) (sym (o .call)) (armed-rising S (Published.reached S (o .w₁)) (o .entry))
 
   module _ (d : distinct (map (λ (a : Armed). a .call .number) (σ .calls)) ≡ true) where
-    pub once-held : many n i (armedRow (σ .calls)) ≤ 1
+    once-held : many n i (armedRow (σ .calls)) ≤ 1
     once-held = rw (many-held n i (σ .calls) d) (go (first (ofNumber n) (σ .calls)) refl)
       where
         go : (o : Option Armed) → first (ofNumber n) (σ .calls) ≡ o → manyIn i o ≤ 1
         go none h = omega arith
         go (some a) h = rising-once i (a .armed) (held-rising a h)
 
-    pub one-due : many n i (armedRow (σ .calls)) ≡ 1 → Due S w n i
+    one-due : many n i (armedRow (σ .calls)) ≡ 1 → Due S w n i
     one-due e = go (first (ofNumber n) (σ .calls)) refl (sym (many-held n i (σ .calls) d) ∙ e)
       where
         go : (o : Option Armed) → first (ofNumber n) (σ .calls) ≡ o → manyIn i o ≡ 1 → Due S w n i
         go none h e = absurd (omega arith)
         go (some a) h e = held-due a h (one-among i (a .armed) e)
 
-    pub due-one : Due S w n i → many n i (armedRow (σ .calls)) ≡ 1
+    due-one : Due S w n i → many n i (armedRow (σ .calls)) ≡ 1
     due-one u =
         let (a, h, r, m) = due-held u in
         many-held n i (σ .calls) d ∙ ap (manyIn i) h ∙ among-one i (a .armed) r m
+
+    -- each living checker is due, with the values at its entry
+    values-held : (h : Living) → Among h (armedRow (σ .calls)) → h .number ≡ n → h .triple ≡ i → (u : Due S w n i) × (h .entry ≡ u .entry .values)
+    unfolding held-due
+    values-held h m en ei =
+        let (a, at, en₂, j, v) = row-among (σ .calls) h m in
+        let f : first (ofNumber n) (σ .calls) ≡ some a = subst (λ (m : ℕ). first (ofNumber m) (σ .calls) ≡ some a) (sym en₂ ∙ en) (first-among (σ .calls) d a at) in
+        let o = held-opened S t n a f in
+        (held-due a f (subst (λ (k : ℕ). Among k (a .armed)) ei j), v ∙ ap (λ (b : Armed). b .call .kept) (o .call))
+
+-- So they are exactly those due.
+pub exactly-held : (S : Sheet) → Plain S → {w : List Event} {σ : Monitor.State} → Leads S w σ → distinct (map (λ (a : Armed). a .call .number) (σ .calls)) ≡ true → length (armedRow (σ .calls)) ≤ 64 → Exactly S w (armedRow (σ .calls))
+exactly-held S plain t d few =
+    record {
+      due = λ n i. (one-due S plain t n i d, due-one S plain t n i d);
+      once = λ n i. once-held S plain t n i d;
+      values = λ h m. values-held S plain t (h .number) (h .triple) d h m refl refl;
+      few = few;
+    }

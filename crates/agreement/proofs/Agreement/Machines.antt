@@ -19,16 +19,14 @@ use Rattle.engine.specs.Runs as Runs
 use Rattle.engine.proofs.OnMachines.Alike.{Alike, fresh-alike, offer-alike, run-alike}
 use Rattle.monitor.specs.Monitor as Monitor
 use Rattle.monitor.specs.Monitor.{arms, armedBy}
-use Rattle.monitor.specs.Answers as OnSheet
 use Rattle.monitor.proofs.Offers.Machined as Machined
 use Rattle.network.specs.declared.Checker.{Checker}
 use Rattle.network.specs.Network as Net
 use Rattle.network.specs.Network.{pairsIn, created}
 use Rattle.network.specs.Grouped.{checker, rowOf, ungrouped}
-use Rattle.network.specs.Answers as OnNetwork
 use Rattle.network.proofs.ByMachine.Apart.{Apart}
 use Rattle.network.proofs.ByMachine.ByCalls as ByCalls
-use Rattle.network.proofs.ByMachine.Runs.{run-grouped}
+use Rattle.network.proofs.ByMachine.Runs.{endsIn, run-grouped}
 use Rattle.agreement.specs.Realises.{Realises}
 
 module _ {S : Sheet} {N : Network} (r : Realises S N) where
@@ -63,7 +61,7 @@ module _ {S : Sheet} {N : Network} (r : Realises S N) where
 
   -- A run, where what holds of the fresh state is kept at every event and says that the state is declared.
   module _ (I : State → Type 0) (declared : (σ : State) → I σ → σ .configuration .main < S .common .states) (kept : (σ : State) (e : Event) → I σ → I (Monitor.offer S σ e .state)) where
-    pub run-same : I (Monitor.fresh S) → (es : List Event) → ranAnswer OnNetwork.endsIn (Net.run N es) ≡ ranAnswer OnSheet.endsIn (Monitor.run S es)
+    pub run-same : I (Monitor.fresh S) → (es : List Event) → ranAnswer endsIn (Net.run N es) ≡ ranAnswer Runs.endsIn (Monitor.run S es)
     unfolding ofSheet Machine.fresh Monitor.fresh
     run-same h es =
         let keeps : (σ : State) (e : Event) → I σ → I (Machine.offer (ofSheet S) σ e .state) = λ σ e i. subst (λ (o : Offered State). I (o .state)) (Machined.offer-same S σ e) (kept σ e i) in

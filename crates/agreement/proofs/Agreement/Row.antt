@@ -7,16 +7,16 @@ use mathlib.Core.List.{List, [], _∷_, _++_, map, map-map, map-append}
 use borrow.Author.Tests.{eq-eqb}
 use lib.Dec.{eqb}
 use Rattle.sheet.proofs.Tests.{and-iff, not-iff}
-use Rattle.step.specs.declared.Answer.{Answer}
-use Rattle.step.specs.Lists.{first, distinct}
+use Rattle.step.specs.Lists.{Among, first, distinct}
 use Rattle.step.specs.Calls.{Call}
-use Rattle.step.proofs.Lists.{Among, any-map}
+use Rattle.step.specs.Answers.{Response}
+use Rattle.step.proofs.Lists.{any-map}
 use Rattle.monitor.specs.Monitor as Monitor
 use Rattle.monitor.specs.Monitor.{Armed}
 use Rattle.network.specs.Network.{ofNumber}
 use Rattle.network.specs.Grouped.{checker, rowOf, ungrouped}
 use Rattle.network.proofs.States.Created.{none-among}
-use Rattle.agreement.specs.Demand.{Living, openCall, armedRow, keptBy, living, shownIn, shownBySheet}
+use Rattle.agreement.specs.Shown.{Living, told, openCall, armedRow, keptBy, living, shownIn, shownBySheet}
 
 -- Each call is the first of its number.
 first-own : (l : List Armed) → distinct (map (λ (a : Armed). a .call .number) l) ≡ true → (a : Armed) → Among a l → first (ofNumber (a .call .number)) (map (λ (a : Armed). a .call) l) ≡ some (a .call)
@@ -40,9 +40,9 @@ row-shown calls (a ∷ l) h =
 pub row-own : (l : List Armed) → distinct (map (λ (a : Armed). a .call .number) l) ≡ true → map (living (map (λ (a : Armed). a .call) l)) (rowOf l) ≡ armedRow l
 row-own l d = row-shown (map (λ (a : Armed). a .call) l) l (first-own l d)
 
-pub shown-same : (answers : List Answer) (σ : Monitor.State) → distinct (map (λ (a : Armed). a .call .number) (σ .calls)) ≡ true → shownIn answers (ungrouped σ) ≡ shownBySheet (record { answers = answers; state = σ })
+pub shown-same : (answers : List Response) (σ : Monitor.State) → distinct (map (λ (a : Armed). a .call .number) (σ .calls)) ≡ true → shownIn answers (ungrouped σ) ≡ shownBySheet (record { answers = answers; state = σ })
 unfolding ungrouped shownBySheet
 shown-same answers σ d =
     let calls = map-map openCall (λ (a : Armed). a .call) (σ .calls) in
     let row = row-own (σ .calls) d in
-    λ i. record { answers = answers; verdict = σ .verdict; position = σ .position; main = σ .configuration .main; variables = σ .configuration .variables; calls = calls i; checkers = row i }
+    λ i. record { answers = answers; verdict = told (σ .verdict); position = σ .position; main = σ .configuration .main; variables = σ .configuration .variables; calls = calls i; checkers = row i }

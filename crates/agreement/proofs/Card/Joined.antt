@@ -15,10 +15,9 @@ use Rattle.sheet.specs.declared.Transition.{Transition}
 use Rattle.sheet.specs.Parts.{Common}
 use Rattle.sheet.specs.Reading.{lentIn, conditionIn, formed}
 use Rattle.sheet.proofs.Accepted.{condition-formed}
-use Rattle.step.specs.Lists.{any}
+use Rattle.step.specs.Lists.{Among, any}
 use Rattle.step.specs.Meets.{meets}
 use Rattle.step.proofs.Bridge.{parses}
-use Rattle.step.proofs.Lists.{Among}
 use Rattle.translation.specs.Card.{isOf, joinedText}
 
 -- Some bytes are those of a tree that names what is lent.

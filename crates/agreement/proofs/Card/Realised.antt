@@ -18,10 +18,10 @@ use Rattle.sheet.specs.Reading.{formed, ranged, reading, sheetLayout, networkLa
 use Rattle.sheet.specs.Log.{Event}
 use Rattle.sheet.proofs.Tests.{and-iff, leb-iff}
 use Rattle.sheet.proofs.Accepted.{accepted}
-use Rattle.step.specs.Lists.{first, keep}
+use Rattle.step.specs.Lists.{Among, first, keep}
 use Rattle.step.specs.Meets.{meets, acted}
 use Rattle.step.specs.Moves.{Configuration, seen, enabled, after, moved}
-use Rattle.step.proofs.Lists.{Among, headOf, first-keep, first-passes}
+use Rattle.step.proofs.Lists.{headOf, first-keep, first-passes}
 use Rattle.step.proofs.Keeping.{keep-map, keep-same, every-among}
 use Rattle.engine.proofs.MachineCarried.Carried.{image, first-image}
 use Rattle.network.specs.declared.Checker.{Checker}

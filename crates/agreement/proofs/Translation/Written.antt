@@ -6,13 +6,12 @@ use lib.ListN.{take}
 use Rattle.sheet.specs.Decode.{sheetOf, networkOf}
 use Rattle.sheet.specs.Reading.{sheetLayout, networkLayout}
 use Rattle.sheet.proofs.Accepted.{Accepted, accepted}
-use Rattle.translation.specs.declared.Translated.the-variants.{Written}
 use Rattle.translation.specs.Translate.{translate}
-use Rattle.translation.specs.Answer.{networkBytes, translatedOf, bufferOf}
+use Rattle.translation.specs.Answer.{networkBytes, written, translatedOf, bufferOf}
 use Rattle.translation.proofs.Cut.{sheet-accepted, written-bytes}
 use Rattle.translation.proofs.Networks.{translate-accepted, translate-decodes}
 
-module _ (s buffer : List ℕ) (size : ℕ) (h : translatedOf s buffer ≡ Written size) where
+module _ (s buffer : List ℕ) (size : ℕ) (h : translatedOf s buffer ≡ written size) where
   pub network-accepted : Accepted networkLayout (take size (bufferOf s buffer))
   unfolding networkBytes
   network-accepted = rw (written-bytes s buffer size h) (translate-accepted (accepted sheetLayout s (sheet-accepted s buffer size h)))

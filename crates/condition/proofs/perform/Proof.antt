@@ -1,19 +1,19 @@
 -- `perform` meets its contract. Assumes nothing.
 use mathlib.Core.Path.{ap, _∙_}
 use borrow.Author.Needs.{needs}
-use Rattle.condition.specs.Answer.{actionPaper}
+use Rattle.condition.specs.Answer.{done, performedOn}
 use Rattle.condition.proofs.Answering.{action-refused, action-performed}
 use Rattle.condition.proofs.perform.Statement.{statement}
 use Rattle.condition.proofs.perform.Tie as tie
 
 returns : tie.Need-returns
-returns c = ap (actionPaper _ _) (action-refused _ _ (c .if1 .left))
+returns c = let e = action-refused _ _ (c .if1 .left) in (ap done e, ap (performedOn _ _) e)
 
 returns-2 : tie.Need-returns-2
-returns-2 c = rw (c .if2 .taken) at (c .before .run .ensures) ∙ ap (actionPaper _ _) (action-performed _ _ (c .before .before .before .if1 .taken))
+returns-2 c = let e = action-performed _ _ (c .before .before .before .if1 .taken) in (rw (c .if2 .taken) at (c .before .run .ensures .0) ∙ ap done e, c .before .run .ensures .1 ∙ ap (performedOn _ _) e)
 
 returns-3 : tie.Need-returns-3
-returns-3 c = rw (c .if2 .left) at (c .before .run .ensures) ∙ ap (actionPaper _ _) (action-performed _ _ (c .before .before .before .if1 .taken))
+returns-3 c = let e = action-performed _ _ (c .before .before .before .if1 .taken) in (rw (c .if2 .left) at (c .before .run .ensures .0) ∙ ap done e, c .before .run .ensures .1 ∙ ap (performedOn _ _) e)
 
 pub perform-spec : {M : Type 1} → statement M
 perform-spec = tie.close (tie.spec returns (λ c κs. search needs) returns-2 returns-3)

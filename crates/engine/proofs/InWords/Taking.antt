@@ -5,7 +5,7 @@ use Prim.Native.Nat.{ℕ, _%_, _≤_, _<_}
 use borrow.Author.Tests.{lt-ltb, le-ltb, eq-eqb, ne-eqb}
 use lib.ListN.{take}
 use Rattle.condition.specs.Meaning.{environment}
-use Rattle.condition.specs.Answer.{actionPaper, actionOutcome, textFrom}
+use Rattle.condition.specs.Answer.{performedOn, actionOutcome, textFrom}
 use Rattle.engine.specs.Plan.{programsIn, monitorsIn, actionOf, targetOf}
 use Rattle.engine.specs.Walk.{mainAfter, variablesAfter}
 
@@ -22,6 +22,6 @@ module _ (s p : List ℕ) (t main : ℕ) (values variables : List ℕ) where
       no-action z = rw (lt-ltb t 96 h, ← e, eq-eqb at 0 z)
 
       pub action-taken : (at ≡ 0 → ⊥) → (n : ℕ) → n ≡ programsIn p → (program : List ℕ) → program ≡ take n values → (count : ℕ) → count ≡ monitorsIn p
-          → (v : List ℕ) → v ≡ actionPaper count variables (actionOutcome (textFrom s at) (environment program (take count variables) [])) .variables
+          → (v : List ℕ) → v ≡ performedOn count variables (actionOutcome (textFrom s at) (environment program (take count variables) []))
           → v ≡ variablesAfter s p t values variables
       action-taken z n en program ep count ec v ev = rw (lt-ltb t 96 h, ← e, ne-eqb at 0 z, ← en, ← ep, ← ec) ev

@@ -11,8 +11,7 @@ use lib.Dec.{ltb}
 use lib.ListN.{length, getD, drop}
 use Rattle.sheet.specs.Table.{every}
 use Rattle.sheet.proofs.Tables.{and-both}
-use Rattle.step.specs.Lists.{first, keep, numbers}
-use Rattle.step.proofs.Lists.{Among}
+use Rattle.step.specs.Lists.{Among, first, keep, numbers}
 
 -- a number and the record that it is of, both found or neither
 abbrev pub Both : {A : Type 0} → A → List A → Option ℕ → Option A → Type 0

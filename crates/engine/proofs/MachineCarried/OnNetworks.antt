@@ -21,10 +21,10 @@ use Rattle.sheet.specs.Answer.{placesOf}
 use Rattle.sheet.proofs.Accepted.{Accepted, GoodPair, bounds, network-transition, network-pair, network-pairs, network-template}
 use Rattle.sheet.proofs.Placed.{conditionPlaces, actionPlaces, network-few}
 use Rattle.sheet.proofs.Tables.{every-map}
-use Rattle.step.specs.Lists.{first, keep}
+use Rattle.step.specs.Lists.{Among, first, keep}
 use Rattle.step.specs.Meets.{meets}
 use Rattle.step.specs.Moves.{Configuration, seen, enabled}
-use Rattle.step.proofs.Lists.{Among, first-passes, kept-passes}
+use Rattle.step.proofs.Lists.{first-passes, kept-passes}
 use Rattle.step.proofs.Keeping.{among-at, among-every, keep-same, length-keep}
 use Rattle.step.proofs.Bridge.{noPaired, full-read}
 use Rattle.step.proofs.Moving.{network-good, moved-main}

@@ -14,7 +14,7 @@ use Rattle.condition.specs.declared.Lent.{Lent}
 use Rattle.condition.specs.Tree.{Condition}
 use Rattle.condition.specs.Parse.{parseCondition, parseAction, conditionFrom, conditionOperator, runFrom}
 use Rattle.condition.specs.Meaning.{Environment, environment, lent, holds, performed}
-use Rattle.condition.specs.Answer.{sized, actionOutcome, runOutcome, actionPaper, textFrom}
+use Rattle.condition.specs.Answer.{sized, actionOutcome, runOutcome, performedOn, textFrom}
 use Rattle.condition.proofs.Placed.{holds-text}
 use Rattle.sheet.specs.Bytes.{byte}
 use Rattle.sheet.specs.Table.{Form, starts, extent, fit}
@@ -75,7 +75,7 @@ some-bytes : (t : List ℕ) → sized t ≡ true → 1 ≤ length t
 some-bytes t e = leb-true 1 (length t) (and-eq-true-iff (leb 1 (length t)) _ .0 e .0)
 
 -- the empty action leaves the variables
-no-action : (values : List ℕ) (count : ℕ) (variables : List ℕ) → actionPaper count variables (actionOutcome [] (environment values (take count variables) [])) .variables ≡ variables
+no-action : (values : List ℕ) (count : ℕ) (variables : List ℕ) → performedOn count variables (actionOutcome [] (environment values (take count variables) [])) ≡ variables
 unfolding actionOutcome runOutcome parseAction runFrom performed
 no-action values count variables = take-append-drop count variables
 
@@ -142,12 +142,12 @@ module _ {T R : Type 0} {F : Layout T R} {s : List ℕ} (a : Accepted F s) (fits
         let most = bounds a .actions in
         let start : startOf (actionPlaces s) i ≡ place = mod-eq-of-lt (omega (arith, action-within)) in
         let text : textFrom s place ≡ textForm false .value (drop place s) = ap₂ (λ (n : ℕ) (l : List ℕ). take n l) (sym (getD-drop place s 0 0 ∙ ap (λ (k : ℕ). getD s k 0) {x = place + 0} {y = place} (omega arith))) (sym (drop-drop 1 place s)) in
-        rw (start, lt-ltb i 161 (omega arith)) (go (eqb (byte s place) 0) refl ∙ ap (λ (l : List ℕ). actionPaper count variables (actionOutcome l (environment values (take count variables) [])) .variables) text)
+        rw (start, lt-ltb i 161 (omega arith)) (go (eqb (byte s place) 0) refl ∙ ap (λ (l : List ℕ). performedOn count variables (actionOutcome l (environment values (take count variables) []))) text)
       where
-        empty : byte s place ≡ 0 → variables ≡ actionPaper count variables (actionOutcome (textFrom s (getD (actionPlaces s) i 0)) (environment values (take count variables) [])) .variables
+        empty : byte s place ≡ 0 → variables ≡ performedOn count variables (actionOutcome (textFrom s (getD (actionPlaces s) i 0)) (environment values (take count variables) []))
         empty z = rw z (sym (no-action values count variables))
 
         go : (b : Bool) → eqb (byte s (getD (actionPlaces s) i 0)) 0 ≡ b → performedAt s (cond b 0 (getD (actionPlaces s) i 0)) values count variables
-            ≡ actionPaper count variables (actionOutcome (textFrom s (getD (actionPlaces s) i 0)) (environment values (take count variables) [])) .variables
+            ≡ performedOn count variables (actionOutcome (textFrom s (getD (actionPlaces s) i 0)) (environment values (take count variables) []))
         go true y = empty (eqb-true _ _ y)
         go false y = rw (ne-eqb (getD (actionPlaces s) i 0) 0 action-past)

@@ -15,13 +15,13 @@ use Rattle.sheet.specs.Table.{every, fit}
 use Rattle.sheet.specs.Log.{Event}
 use Rattle.sheet.proofs.Tests.{eqb-iff}
 use Rattle.step.specs.declared.Verdict.{Verdict}
-use Rattle.step.specs.Lists.{first, keep, any, least, distinct, placeOf}
+use Rattle.step.specs.Lists.{Among, first, keep, any, least, distinct, placeOf}
 use Rattle.step.specs.Moves.{Configuration, seen, moved}
 use Rattle.step.specs.Calls.{Call, isEntry, lastPosition, refusals, lowest}
 use Rattle.step.specs.Verdicts.{verdict, isJudged, verdictIn, outcomeOf}
 use Rattle.step.specs.Runs.{offered}
 use Rattle.step.specs.Walk.{numberIn, leastOf}
-use Rattle.step.proofs.Lists.{Among, any-map, first-passes, kept-passes}
+use Rattle.step.proofs.Lists.{any-map, first-passes, kept-passes}
 use Rattle.step.proofs.Moving.{moved-variables}
 use Rattle.step.proofs.Refusing.{refusalBy, refusal-asked, entry-room, exit-open}
 use Rattle.step.proofs.Refusing as Refusing

@@ -21,10 +21,11 @@ use Rattle.sheet.proofs.Readers.Logs.{word-here, half-past}
 use Rattle.step.specs.declared.Verdict.{Verdict}
 use Rattle.step.specs.declared.Outcome.{Outcome}
 use Rattle.step.specs.declared.Outcome.the-variants.{Open, Judged}
-use Rattle.step.specs.declared.RunAnswer.the-variants.{Violated, RefusedAt}
+use Rattle.step.specs.declared.RunAnswer.the-variants.{Violated}
 use Rattle.step.specs.Verdicts.{outcomeOf, verdictIn}
 use Rattle.step.specs.Runs.{Offered}
-use Rattle.step.specs.Answers.{ranAnswer}
+use Rattle.step.specs.Answers as words
+use Rattle.step.specs.Answers.{runPaper, ranAnswer}
 use Rattle.step.proofs.Rooms.{four, behind-fit, length-fit}
 use Rattle.step.proofs.Following.{Engine, Works, Following, follow-refused, follow-violated, follow-next}
 use Rattle.engine.specs.declared.Running.{Running}
@@ -168,11 +169,11 @@ module _ (s p : List ℕ) (P : ℕ) (log : List ℕ) (count size end : ℕ) (r :
   run-there : next .run ≡ offerBy s p (words r row variables) (eventAt P log at) .state .run
   run-there = ap (λ (a : Advanced). a .run) en ∙ ap (λ (o : Offered Words). o .state .run) offer-there
 
-  pub ends-refused : (next .answer ≡ 0 → ⊥) → RefusedAt (next .answer) (i + 1) ≡ ranAnswer endsBy (followIn s p (eventsOf P log))
+  pub ends-refused : (next .answer ≡ 0 → ⊥) → words.refusedAt (next .answer) (i + 1) ≡ ranAnswer endsBy (followIn s p (eventsOf P log))
   ends-refused k = follow-refused (works s p) P log σ i at end (g .following) h (eventAt P log at) refl (next .answer) answer-there k
 
   module _ (z : next .answer ≡ 0) where
-    pub ends-violated : (x : Verdict) → next .run .outcome ≡ Judged x → Violated x ≡ ranAnswer endsBy (followIn s p (eventsOf P log))
+    pub ends-violated : (x : Verdict) → next .run .outcome ≡ Judged x → runPaper (Violated x) ≡ ranAnswer endsBy (followIn s p (eventsOf P log))
     ends-violated x k =
         follow-violated (works s p) P log σ i at end (g .following) h (eventAt P log at) refl (sym answer-there ∙ z) (offerBy s p σ (eventAt P log at) .state) refl x (ap (λ (q : Running). q .outcome) (sym run-there) ∙ k)
 

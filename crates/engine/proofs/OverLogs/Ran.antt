@@ -14,14 +14,12 @@ use Rattle.sheet.specs.Reading.{Layout, reading, lastOf, sheetLayout, networkLa
 use Rattle.sheet.specs.Log.{Event, logReading, eventsOf}
 use Rattle.sheet.specs.declared.Reading.{Reading}
 use Rattle.sheet.specs.declared.Reading.the-variants.{Refused}
-use Rattle.sheet.specs.Answer.{answer}
+use Rattle.sheet.specs.Answer.{readingPaper, answer}
 use Rattle.sheet.proofs.Accepted.{Accepted, accepted, bounds, length-said}
 use Rattle.sheet.proofs.Tables.{length-records}
 use Rattle.sheet.proofs.Limits.{sheet-longest}
-use Rattle.step.specs.declared.RunAnswer.{RunAnswer}
-use Rattle.step.specs.declared.RunAnswer.the-variants as run
 use Rattle.step.specs.Runs.{runFrom}
-use Rattle.step.specs.Answers.{unlessRefused, ranAnswer}
+use Rattle.step.specs.Answers.{Ending, refused, unlessRefused, ranAnswer}
 use Rattle.step.proofs.Rooms.{take-fitted}
 use Rattle.step.proofs.Runs.{unread-run}
 use Rattle.engine.specs.Machine as Machine
@@ -62,11 +60,11 @@ unfolding commonOf
 few-programs F s h = bounds (accepted F s h) .programs
 
 module _ (s log : List ℕ) where
-  pub sheet-unread : (r : Reading) → r ≡ answer (reading sheetLayout s) → (n : ℕ) → r ≡ Refused n → run.Refused n ≡ sheetRun s log
+  pub sheet-unread : (r : Reading) → readingPaper r ≡ answer (reading sheetLayout s) → (n : ℕ) → r ≡ Refused n → refused n ≡ sheetRun s log
   unfolding sheetRun
   sheet-unread r er n h = unread-run (reading sheetLayout s) r er n h _
 
-  pub sheet-ran : reading sheetLayout s ≡ 0 → (p : List ℕ) → p ≡ sheetPlan s → (r : RunAnswer) → r ≡ unlessRefused (logReading (byte s 5) log) (ranAnswer endsBy (followIn s p (eventsOf (byte s 5) log))) → r ≡ sheetRun s log
+  pub sheet-ran : reading sheetLayout s ≡ 0 → (p : List ℕ) → p ≡ sheetPlan s → (r : Ending) → r ≡ unlessRefused (logReading (byte s 5) log) (ranAnswer endsBy (followIn s p (eventsOf (byte s 5) log))) → r ≡ sheetRun s log
   unfolding sheetRun ofSheet sheetOf
   sheet-ran h p ep r e =
       let a = accepted sheetLayout s h in
@@ -74,11 +72,11 @@ module _ (s log : List ℕ) where
       let c = sheet-carried a (omega (arith, sheet-longest s h)) in
       rw h (e ∙ ap (unlessRefused (logReading (byte s 5) log)) (ap (λ (q : List ℕ). ranAnswer endsBy (followIn s q es)) ep ∙ ran a (ofSheet (sheetOf s)) refl (length (lastOf sheetLayout s)) (sheetPlan s) c es))
 
-  pub network-unread : (r : Reading) → r ≡ answer (reading networkLayout s) → (n : ℕ) → r ≡ Refused n → run.Refused n ≡ networkRun s log
+  pub network-unread : (r : Reading) → readingPaper r ≡ answer (reading networkLayout s) → (n : ℕ) → r ≡ Refused n → refused n ≡ networkRun s log
   unfolding networkRun
   network-unread r er n h = unread-run (reading networkLayout s) r er n h _
 
-  pub network-ran : reading networkLayout s ≡ 0 → (n : ℕ) → n ≡ half s 0 → n < 65536 → (p : List ℕ) → p ≡ networkPlan s → (r : RunAnswer)
+  pub network-ran : reading networkLayout s ≡ 0 → (n : ℕ) → n ≡ half s 0 → n < 65536 → (p : List ℕ) → p ≡ networkPlan s → (r : Ending)
       → r ≡ unlessRefused (logReading (byte s 5) log) (ranAnswer endsBy (followIn s p (eventsOf (byte s 5) log))) → r ≡ networkRun s log
   unfolding networkRun ofNetwork networkOf
   network-ran h n said short p ep r e =

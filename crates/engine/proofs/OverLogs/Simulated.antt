@@ -9,10 +9,9 @@ use lib.ListN.{length, take, length-set}
 use lib.Seq.{sets, slice, length-sets}
 use Rattle.sheet.specs.Log.{Event}
 use Rattle.step.specs.declared.Verdict.{Verdict}
-use Rattle.step.specs.declared.RunAnswer.the-variants.{Clean}
 use Rattle.step.specs.Verdicts.{verdictIn}
 use Rattle.step.specs.Runs.{Ran, offered, unlessJudged, unlessRefusedAt, runFrom}
-use Rattle.step.specs.Answers.{ranAnswer}
+use Rattle.step.specs.Answers.{clean, ranAnswer}
 use Rattle.engine.specs.Machine.{Machine, State, offer}
 use Rattle.engine.specs.Walk.{Words, placeIn, rowWith, rowWithout, refusalIn, enteredIn, exitedIn, offerIn, givenOf, eightOf}
 use Rattle.engine.specs.Showing.{shownBy, Steady, Carries}
@@ -55,7 +54,7 @@ goes-alike (suc n) i v x y e = refl
 pub run-shown : (M : Machine) (last : ℕ) (s p : List ℕ) → Carries M last s p → (es : List Event) (i : ℕ) (σ : Words) → Steady (M .common) last (shownBy (M .common) σ) → length (σ .row) ≡ 256
     → ranAnswer endsBy (runFrom (offerBy s p) (λ σ. verdictIn (σ .run .outcome)) i σ es) ≡ ranAnswer endsIn (runFrom (offer M) (λ σ. σ .verdict) i (shownBy (M .common) σ) es)
 unfolding runFrom shownBy
-run-shown M last s p c [] i σ h long = ap (Clean (σ .run .position) (σ .run .main)) (sym (shown-count (M .common) σ))
+run-shown M last s p c [] i σ h long = ap (clean (σ .run .position) (σ .run .main)) (sym (shown-count (M .common) σ))
 run-shown M last s p c (e ∷ es) i σ h long =
     let to = offerBy s p σ e .state in
     let answer = offer-answer M last s p σ e c h long in

@@ -13,7 +13,8 @@ use Rattle.sheet.specs.declared.Header.{Header}
 use Rattle.sheet.specs.declared.Reading.{Reading}
 use Rattle.sheet.specs.declared.Reading.the-variants as sheet
 use Rattle.sheet.specs.declared.Places.{Places}
-use Rattle.sheet.specs.Answer.{answer, headerOf, placesOf}
+use Rattle.sheet.specs.Answer as paper
+use Rattle.sheet.specs.Answer.{readingPaper, answer, headerOf, placesOf}
 use Rattle.sheet.proofs.Accepted.{Accepted, accepted}
 use Rattle.sheet.proofs.Answers.{answer-accepted, answer-refused}
 use Rattle.sheet.proofs.Limits.{sheet-longest, mostNetwork, network-longest, table-places}
@@ -39,12 +40,12 @@ pub network-near : (s : List ℕ) → reading networkLayout s ≡ 0 → (x : Pla
 network-near s h x e = near-places (accepted networkLayout s h) (omega (arith, network-longest s h, most-near (wide s))) x e
 
 -- what is read is put into a plan, and what is not leaves it as it was
-module _ (n : ℕ) (r : Reading) (er : r ≡ answer n) where
-  pub put-accepted : r ≡ sheet.Accepted → (before after put : List ℕ) → after ≡ put → (sheet.Accepted ≡ answer n) × (after ≡ unlessTaken n before put)
+module _ (n : ℕ) (r : Reading) (er : readingPaper r ≡ answer n) where
+  pub put-accepted : r ≡ sheet.Accepted → (before after put : List ℕ) → after ≡ put → (paper.accepted tt ≡ answer n) × (after ≡ unlessTaken n before put)
   put-accepted h before after put e = rw (answer-accepted n r er h) (refl, e)
 
-  pub kept-refused : (m : ℕ) → r ≡ sheet.Refused m → (before put : List ℕ) → (sheet.Refused m ≡ answer n) × (before ≡ unlessTaken n before put)
-  kept-refused m h before put = let (k, g, x) = answer-refused n r er m h in rw g (x, refl)
+  pub kept-refused : (m : ℕ) → r ≡ sheet.Refused m → (before put : List ℕ) → (paper.refused m ≡ answer n) × (before ≡ unlessTaken n before put)
+  kept-refused m h before put = let (k, g, x) = answer-refused n r er m h in rw g (ap paper.refused x, refl)
 
 -- made where there was nothing, it is the plan
 pub planned : (n : ℕ) → n ≡ 0 → (into : List ℕ → List ℕ) (p : List ℕ) → p ≡ unlessTaken n (replicate planSize absent) (into (replicate planSize absent)) → p ≡ into empty

@@ -11,18 +11,18 @@ use Rattle.engine.proofs.run_network.Tie as tie
 run-planned-requires : tie.Need-run-planned-requires
 run-planned-requires c κs =
     let a = c .before .before .before .before .before .before .before .before .args in
-    few-programs networkLayout (a .s .now) (answer-accepted _ _ (c .before .before .before .before .prepare-network .ensures .0) (search needs))
+    few-programs networkLayout (a .s .now) (answer-accepted _ (c .before .before .before .before .prepare-network .result) (c .before .before .before .before .prepare-network .ensures .0) (search needs))
 
 returns : tie.Need-returns
 returns c =
     let a = c .before .before .before .before .before .before .before .before .before .args in
-    let h = answer-accepted _ _ (c .before .before .before .before .before .prepare-network .ensures .0) (search needs) in
+    let h = answer-accepted _ (c .before .before .before .before .before .prepare-network .result) (c .before .before .before .before .before .prepare-network .ensures .0) (search needs) in
     network-ran (a .s .now) (a .log .now) h _ (c .before .before .length-said .ensures .0) (c .before .before .length-said .ensures .1) _ (planned _ h (networkInto (a .s .now)) _ (c .before .before .before .before .before .prepare-network .ensures .1)) _ (c .run-planned .ensures)
 
 returns-2 : tie.Need-returns-2
 returns-2 c =
     let a = c .before .before .before .before .before .before .before .args in
-    network-unread (a .s .now) (a .log .now) _ (c .before .before .before .prepare-network .ensures .0) _ (search needs)
+    network-unread (a .s .now) (a .log .now) (c .before .before .before .prepare-network .result) (c .before .before .before .prepare-network .ensures .0) _ (search needs)
 
 pub run-network-spec : {M : Type 1} → statement M
 run-network-spec =

@@ -16,21 +16,21 @@ follow-requires c κs =
     let b = c .before .before .before .before .before .before in
     let a = b .args in
     let programs : c .before .before .before .header-of .result .programs ≡ byte (a .s .now) 5 = ap (λ (h : Header). h .programs) (c .before .before .before .header-of .ensures) in
-    rw programs (log-accepted (a .s .now) (a .log .now) _ (c .before .before .before .header-of .ensures) _ (c .before .before .read-log .ensures) _ (c .enum-told .given .1), b .pre)
+    rw programs (log-accepted (a .s .now) (a .log .now) _ (c .before .before .before .header-of .ensures) (c .before .before .read-log .result) (c .before .before .read-log .ensures) _ (c .enum-told .given .1), b .pre)
 
 returns : tie.Need-returns
 returns c =
     let b = c .before .before .before .before .before .before .before in
     let a = b .args in
     let programs : c .before .before .before .before .header-of .result .programs ≡ byte (a .s .now) 5 = ap (λ (h : Header). h .programs) (c .before .before .before .before .header-of .ensures) in
-    let read = log-accepted (a .s .now) (a .log .now) _ (c .before .before .before .before .header-of .ensures) _ (c .before .before .before .read-log .ensures) _ (c .before .enum-told .given .1) in
+    let read = log-accepted (a .s .now) (a .log .now) _ (c .before .before .before .before .header-of .ensures) (c .before .before .before .read-log .result) (c .before .before .before .read-log .ensures) _ (c .before .enum-told .given .1) in
     rw read (c .follow .ensures ∙ ap (λ (n : ℕ). ranAnswer endsBy (followIn (a .s .now) (a .plan .now) (eventsOf n (a .log .now)))) programs)
 
 returns-2 : tie.Need-returns-2
 returns-2 c =
     let b = c .before .before .before .before .before .before .before in
     let a = b .args in
-    unlogged-run (a .s .now) (a .log .now) _ (c .before .before .before .before .header-of .ensures) _ (c .before .before .before .read-log .ensures) _ (search needs) _
+    unlogged-run (a .s .now) (a .log .now) _ (c .before .before .before .before .header-of .ensures) (c .before .before .before .read-log .result) (c .before .before .before .read-log .ensures) _ (search needs) _
 
 pub run-planned-spec : {M : Type 1} → statement M
 run-planned-spec =

@@ -7,16 +7,16 @@ use Rattle.lines.proofs.network_run.Statement.{statement}
 use Rattle.lines.proofs.network_run.Tie as tie
 
 array-share-prefix-buffer : tie.Need-array-share-prefix-buffer
-array-share-prefix-buffer c = omega (arith, written-short _ _ _ (c .before .before .before .before .translate .ensures .0) (c .before .n .given .0 .0) (search needs))
+array-share-prefix-buffer c = omega (arith, written-short _ _ (c .before .before .before .before .translate .result) (c .before .before .before .before .translate .ensures .0) (c .before .n .given .0 .0) (search needs))
 
 slice-aggregate-run : tie.Need-slice-aggregate-run
-slice-aggregate-run c = written-cut _ _ _ (c .before .before .before .before .before .translate .ensures .0) _ (search needs) _ (c .before .before .before .before .before .translate .ensures .1)
+slice-aggregate-run c = written-cut _ _ (c .before .before .before .before .before .translate .result) (c .before .before .before .before .before .translate .ensures .0) _ (search needs) _ (c .before .before .before .before .before .translate .ensures .1)
 
 returns : tie.Need-returns
-returns c = written-run _ _ _ (c .before .before .before .before .before .before .translate .ensures .0) (c .before .before .before .n .given .0 .0) (search needs) _ (c .before .before .before .before .before .before .translate .ensures .1) _ _ (c .run .ensures)
+returns c = written-run _ _ (c .before .before .before .before .before .before .translate .result) (c .before .before .before .before .before .before .translate .ensures .0) (c .before .before .before .n .given .0 .0) (search needs) _ (c .before .before .before .before .before .before .translate .ensures .1) _ _ (c .run .ensures)
 
 returns-2 : tie.Need-returns-2
-returns-2 c = refused-run _ _ _ (c .before .before .before .before .translate .ensures .0) (search needs) _ (search needs) _
+returns-2 c = refused-run _ _ (c .before .before .before .before .translate .result) (c .before .before .before .before .translate .ensures .0) (search needs) _ (search needs) _
 
 pub network-run-spec : {M : Type 1} → statement M
 network-run-spec =

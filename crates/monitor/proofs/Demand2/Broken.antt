@@ -4,7 +4,7 @@ use mathlib.Core.Logic.{_↔_}
 use mathlib.Core.Bool.{Bool, true, false, cond}
 use mathlib.Core.Option.{Option, none, some}
 use mathlib.Core.List.{List, [], _∷_, _++_, append-assoc}
-use Prim.Native.Nat.{ℕ, zero, suc, _≤_, _<_}
+use Prim.Native.Nat.{ℕ, _<_}
 use native.Mathlib.Omega.{arith}
 use lib.ListN.{length}
 use borrow.Author.Tests.{eqb-true, eqb-false, eq-eqb, not-true}
@@ -15,16 +15,17 @@ use Rattle.sheet.specs.Reading.{isBad}
 use Rattle.sheet.specs.Log.{Event}
 use Rattle.sheet.proofs.Tests.{and-iff, eqb-iff}
 use Rattle.sheet.proofs.Tables.{and-both}
-use Rattle.step.specs.Lists.{first, keep}
+use Rattle.step.specs.Lists.{Among, first, keep}
 use Rattle.step.specs.Meets.{meets}
 use Rattle.step.specs.Moves.{Configuration}
 use Rattle.step.specs.Calls.{isEntry}
-use Rattle.step.proofs.Lists.{none-some, Among, kept-passes, passes-kept, number-passes, passes-number, least-none, least-some}
+use Rattle.step.proofs.Lists.{none-some, kept-passes, passes-kept, number-passes, passes-number, least-none, least-some}
 use Rattle.monitor.specs.Monitor.{Armed, State, initial, tripleIn, arms, armedBy, fails, failing, ofNumber, refusal}
-use Rattle.monitor.specs.Published.{reached, Breaks}
-use Rattle.monitor.specs.Demand.{Taken, Lowest}
-use Rattle.monitor.proofs.Demand2.Traces.{opening, Opened, snoc-same}
+use Rattle.monitor.specs.Published.{reached, inOrder, Breaks}
+use Rattle.monitor.specs.Demand.{Lowest}
+use Rattle.monitor.proofs.Demand2.Traces.{Leads, opening, Opened, snoc-same}
 use Rattle.monitor.proofs.Demand2.Calls.{held-opened, opened-held, unit-held, free}
+use Rattle.monitor.proofs.Demand2.StillOpen.{one}
 
 -- What is needed of a sheet: it does not start in a bad state; a precondition sees the event's values only, a postcondition these and the kept ones.
 pub record Plain (S : Sheet) : Type 0 where
@@ -48,10 +49,6 @@ Closes S σ e i = (e .kind ≡ 1) × ((a : Armed) × (first (ofNumber (e .number
 -- the triple that the monitor finds broken at an event
 abbrev pub brokenAt : Sheet → State → Event → Option ℕ
 brokenAt S σ e = cond (isEntry e) none (failing S (σ .configuration) e (first (ofNumber (e .number)) (σ .calls)))
-
-one : (n : ℕ) → n ≤ 1 → (n ≡ 0 → ⊥) → n ≡ 1
-one zero h k = absurd (k refl)
-one (suc n) h k = omega arith
 
 abbrev pub noTriple : Triple
 noTriple = record { state = 0; unit = 0; precondition = 0; postcondition = 0 }
@@ -79,9 +76,9 @@ module _ (S : Sheet) (plain : Plain S) where
         passes-number (arms S k e) noTriple (S .triples) 0 i i (omega arith) (a .there)
         (and-both (eq-eqb _ _ (a .inState)) (and-both (eq-eqb _ _ (a .ofUnit)) (plain .precondition i (a .there) (e .values) (k .variables) [] ∙ a .precondition)))
 
-  module _ {w : List Event} {σ : State} (t : Taken S w σ) (e : Event) (h : refusal S σ e ≡ 0) (i : ℕ) where
+  module _ {w : List Event} {σ : State} (t : Leads S w σ) (e : Event) (h : refusal S σ e ≡ 0) (i : ℕ) where
     -- what the published definition finds broken after the event is what the monitor finds broken at it
-    pub breaks-closes : Breaks S (w ++ e ∷ []) i → Closes S σ e i
+    pub breaks-closes : Breaks S (inOrder S) (w ++ e ∷ []) i → Closes S σ e i
     unfolding fails
     breaks-closes b =
         let (p, q) = snoc-same w (b .w₁ ++ b .entry ∷ b .w₂) e (b .exit) (b .parts ∙ sym (append-assoc (b .w₁) (b .entry ∷ b .w₂) (b .exit ∷ []))) in
@@ -89,13 +86,13 @@ module _ (S : Sheet) (plain : Plain S) where
         let n : b .entry .number ≡ e .number = rw q (sym (b .sameNumber)) in
         let o : Opened S (e .number) (initial S) w a = record { w₁ = b .w₁; entry = b .entry; w₂ = b .w₂; parts = p; kind = b .isEntry; number = n; apart = rw n at (b .apart); call = refl } in
         let f = opened-held S t (e .number) a o in
-        let m = arms-armed (reached S (b .w₁)) (b .entry) i (record { there = b .there; inState = b .inState; ofUnit = b .ofUnit; precondition = b .precondition }) in
+        let m = arms-armed (reached S (b .w₁)) (b .entry) i (record { there = b .there; inState = b .inState ∙ ap (λ (k : Configuration). k .main) (b .leads); ofUnit = b .ofUnit; precondition = b .precondition }) in
         let g : meets (S .common) (tripleIn S i .postcondition) (environment (e .values) [] (b .entry .values)) ≡ false = rw q (b .postcondition) in (
           rw q (b .isExit),
           (a, f, passes-kept (fails S (σ .configuration) e (a .call)) (a .armed) i m (rw (plain .postcondition i (b .there) (e .values) (σ .configuration .variables) (b .entry .values), g))),
         )
 
-    pub closes-breaks : Closes S σ e i → Breaks S (w ++ e ∷ []) i
+    pub closes-breaks : Closes S σ e i → Breaks S (inOrder S) (w ++ e ∷ []) i
     unfolding fails
     closes-breaks (x, (a, f, m)) =
         let o = held-opened S t (e .number) a f in
@@ -113,6 +110,8 @@ module _ (S : Sheet) (plain : Plain S) where
           sameNumber = sym (o .number);
           sameUnit = sym u ∙ ap (λ c. c .call .unit) (o .call);
           apart = rw (o .number) (o .apart);
+          before = reached S (o .w₁);
+          leads = refl;
           there = r .there;
           inState = r .inState;
           ofUnit = r .ofUnit;
@@ -120,15 +119,15 @@ module _ (S : Sheet) (plain : Plain S) where
           postcondition = sym (plain .postcondition i (r .there) (e .values) (σ .configuration .variables) (o .entry .values)) ∙ not-true _ (rw (o .call) at z);
         }
 
-    pub breaks-iff : Breaks S (w ++ e ∷ []) i ↔ Closes S σ e i
+    pub breaks-iff : Breaks S (inOrder S) (w ++ e ∷ []) i ↔ Closes S σ e i
     breaks-iff = (breaks-closes, closes-breaks)
 
     -- an entry breaks nothing
-    pub entry-breaks : e .kind ≡ 0 → Breaks S (w ++ e ∷ []) i → ⊥
+    pub entry-breaks : e .kind ≡ 0 → Breaks S (inOrder S) (w ++ e ∷ []) i → ⊥
     entry-breaks x b = let y = breaks-closes b .0 in omega arith
 
-  module _ {w : List Event} {σ : State} (t : Taken S w σ) (e : Event) (h : refusal S σ e ≡ 0) where
-    closed : (o : Option Armed) → e .kind ≡ 1 → first (ofNumber (e .number)) (σ .calls) ≡ o → Lowest S (w ++ e ∷ []) (failing S (σ .configuration) e o)
+  module _ {w : List Event} {σ : State} (t : Leads S w σ) (e : Event) (h : refusal S σ e ≡ 0) where
+    closed : (o : Option Armed) → e .kind ≡ 1 → first (ofNumber (e .number)) (σ .calls) ≡ o → Lowest S (inOrder S) (w ++ e ∷ []) (failing S (σ .configuration) e o)
     closed none x f =
         record {
           unbroken = λ _ i b. let (a, g, m) = breaks-closes t e h i b .1 in none-some (sym f ∙ g);
@@ -136,19 +135,19 @@ module _ (S : Sheet) (plain : Plain S) where
         }
     closed (some a) x f =
         let l = keep (fails S (σ .configuration) e (a .call)) (a .armed) in
-        let known : (i : ℕ) → Breaks S (w ++ e ∷ []) i → Among i l = λ i b. same-armed i b in
+        let known : (i : ℕ) → Breaks S (inOrder S) (w ++ e ∷ []) i → Among i l = λ i b. same-armed i b in
         record {
           unbroken = λ q i b. least-none l q i (known i b);
           broken = λ i q. (closes-breaks t e h i (x, (a, f, least-some l i q .0)), λ j b. least-some l i q .1 j (known j b));
         }
       where
-        same-armed : (i : ℕ) → Breaks S (w ++ e ∷ []) i → Among i (keep (fails S (σ .configuration) e (a .call)) (a .armed))
+        same-armed : (i : ℕ) → Breaks S (inOrder S) (w ++ e ∷ []) i → Among i (keep (fails S (σ .configuration) e (a .call)) (a .armed))
         same-armed i b =
             let (c, g, m) = breaks-closes t e h i b .1 in
             let s : c ≡ a = cc in
             subst (λ (v : Armed). Among i (keep (fails S (σ .configuration) e (v .call)) (v .armed))) s m
 
-    lowest-step : (b : Bool) → isEntry e ≡ b → Lowest S (w ++ e ∷ []) (cond b none (failing S (σ .configuration) e (first (ofNumber (e .number)) (σ .calls))))
+    lowest-step : (b : Bool) → isEntry e ≡ b → Lowest S (inOrder S) (w ++ e ∷ []) (cond b none (failing S (σ .configuration) e (first (ofNumber (e .number)) (σ .calls))))
     lowest-step true x =
         record { unbroken = λ _ i. entry-breaks t e h i (eqb-true (e .kind) 0 x); broken = λ i q. absurd (none-some q) }
     lowest-step false x =
@@ -157,5 +156,5 @@ module _ (S : Sheet) (plain : Plain S) where
         closed (first (ofNumber (e .number)) (σ .calls)) (one (e .kind) k y) refl
 
     -- The triple that the monitor finds broken is the lowest that the trace breaks with this event.
-    pub lowest-broken : Lowest S (w ++ e ∷ []) (brokenAt S σ e)
+    pub lowest-broken : Lowest S (inOrder S) (w ++ e ∷ []) (brokenAt S σ e)
     lowest-broken = lowest-step (isEntry e) refl

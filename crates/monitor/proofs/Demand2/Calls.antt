@@ -22,8 +22,7 @@ use Rattle.step.proofs.Refusing as Refusing
 use Rattle.step.proofs.Lists.{none-some, headOf, first-keep, keep-append, keep-none, keep-again, keep-without, any-keep, any-map}
 use Rattle.monitor.specs.Monitor.{Armed, State, initial, fresh, ofNumber, entered, exited, refusal, offer}
 use Rattle.monitor.specs.Published.{shift, reached}
-use Rattle.monitor.specs.Demand.{Taken, begun, more}
-use Rattle.monitor.proofs.Demand2.Traces.{opening, next, callOf, another, Opened, shift-snoc, call-snoc, opened-call, call-opened}
+use Rattle.monitor.proofs.Demand2.Traces.{Leads, begun, more, opening, next, callOf, another, Opened, shift-snoc, call-snoc, opened-call, call-opened}
 
 -- An event that is refused for no reason.
 abbrev pub Free : Sheet → State → Event → Type 0
@@ -103,13 +102,13 @@ module _ (S : Sheet) where
         calls = λ n. rw (call-snoc S n (initial S) none w e) (exit-step S n (reached S w) e (σ .calls) (callOf S n (initial S) none w) (i .calls n) (eqb (e .number) n) refl t);
       }
 
-  pub holds : {w : List Event} {σ : State} → Taken S w σ → Holds S w σ
+  pub holds : {w : List Event} {σ : State} → Leads S w σ → Holds S w σ
   unfolding fresh keep callOf shift
   holds begun = record { configuration = refl; position = refl; calls = λ n. refl }
   holds (more {w} {σ} t e h) = rw (offer-taken S σ e h) (holds-step w σ e (isEntry e) refl h (holds t))
 
   -- The call held under a number is the one that the trace opened and left open, if there is one; no two calls have one number.
-  module _ {w : List Event} {σ : State} (t : Taken S w σ) (n : ℕ) where
+  module _ {w : List Event} {σ : State} (t : Leads S w σ) (n : ℕ) where
     pub held : first (ofNumber n) (σ .calls) ≡ callOf S n (initial S) none w
     held = first-keep (ofNumber n) (σ .calls) ∙ rw (holds t .calls n) (head-list (callOf S n (initial S) none w))
 

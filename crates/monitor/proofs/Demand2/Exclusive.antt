@@ -1,40 +1,23 @@
 -- Sheet order against definition 3 of source document 003, which takes some transition whose condition holds. Assumes nothing.
-use mathlib.Core.Path.{_≡_, refl, sym, _∙_, ap, subst}
-use mathlib.Core.Logic.{_⊎_, inl, inr, _↔_}
-use mathlib.Core.Bool.{true}
+use mathlib.Core.Path.{_≡_, refl, sym, _∙_, subst}
+use mathlib.Core.Logic.{inl, inr}
 use mathlib.Core.Option.{Option, none, some}
-use mathlib.Core.List.{List, [], _∷_, _++_}
+use mathlib.Core.List.{List, [], _∷_}
+use Prim.Native.Nat.{ℕ}
 use Rattle.sheet.specs.declared.Transition.{Transition}
 use Rattle.sheet.specs.Parts.{Sheet}
-use Rattle.sheet.specs.Reading.{isBad}
+use Rattle.sheet.specs.Decode.{sheetOf}
 use Rattle.sheet.specs.Log.{Event}
 use Rattle.step.specs.Lists.{first}
-use Rattle.step.specs.Moves.{Configuration, enabled, after, moved}
-use Rattle.step.proofs.Lists.{Among, first-passes, none-passes}
+use Rattle.step.specs.Meets.{acted}
+use Rattle.step.specs.Moves.{Configuration, seen, enabled, after, moved}
+use Rattle.step.specs.Answers.{Ending}
+use Rattle.step.proofs.Lists.{first-passes, none-passes}
 use Rattle.monitor.specs.Monitor.{initial}
-use Rattle.monitor.specs.Published.{shift, reached, ReachesBad}
+use Rattle.monitor.specs.Published.{shift, Leading, inOrder, asPrinted, Step, Shifts, Breaks, Counterexample}
+use Rattle.monitor.specs.Demand.{Clear, Finds, Violated, Refused, Clean, Published, Exclusive, OrderAgrees}
 use Rattle.monitor.proofs.Demand2.Traces.{stepped}
-
--- a transition of the sheet that starts in this state, on this kind of event and unit, and whose condition holds
-abbrev pub Enabled : Sheet → Configuration → Event → Transition → Type 0
-Enabled S k e t = Among t (S .transitions) × (enabled (S .common) k e t ≡ true)
-
--- "there are q, c, a .. or there are none", for one event
-abbrev pub Step : Sheet → Configuration → Event → Configuration → Type 0
-Step S k e k′ = ((t : Transition) × Enabled S k e t × (k′ ≡ after (S .common) k e (some t))) ⊎ (((t : Transition) → Enabled S k e t → ⊥) × (k′ ≡ k))
-
--- Definition 3 as it is printed: "(q, v) -w-> (q', v')"
-abbrev pub Shifts : Sheet → Configuration → List Event → Configuration → Type 0
-Shifts S k [] k′ = k ≡ k′
-Shifts S k (e ∷ w) k′ = (j : Configuration) × Step S k e j × Shifts S j w k′
-
--- The conditions on the transitions of one state, kind and unit exclude each other: at an event, and at every event of a trace.
-abbrev pub ExclusiveAt : Sheet → Configuration → Event → Type 0
-ExclusiveAt S k e = (t u : Transition) → Enabled S k e t → Enabled S k e u → t ≡ u
-
-abbrev pub Exclusive : Sheet → Configuration → List Event → Type 0
-Exclusive S k [] = Unit {0}
-Exclusive S k (e ∷ w) = ExclusiveAt S k e × Exclusive S (stepped S k e) w
+use Rattle.monitor.proofs.Demand2.Acceptance.{demand2}
 
 module _ (S : Sheet) where
   module _ (k : Configuration) (e : Event) where
@@ -43,48 +26,94 @@ module _ (S : Sheet) where
     order-step (some t) q = inl (t, first-passes (enabled (S .common) k e) (S .transitions) t q, refl)
 
     -- sheet order takes a step of definition 3
-    pub moved-step : Step S k e (stepped S k e)
+    moved-step : Step S k e (stepped S k e)
     unfolding moved
     moved-step = order-step (first (enabled (S .common) k e) (S .transitions)) refl
 
-    -- and where conditions exclude each other there is no other: any transition that is enabled is the first one
-    pub steps-same : ExclusiveAt S k e → (i j : Configuration) → Step S k e i → Step S k e j → i ≡ j
-    steps-same x i j (inl (t, h, p)) (inl (u, l, q)) = p ∙ ap (λ v. after (S .common) k e (some v)) (x t u h l) ∙ sym q
+    -- and where conditions exclude each other all steps are the same
+    steps-same : Exclusive S → (i j : Configuration) → Step S k e i → Step S k e j → i ≡ j
+    steps-same x i j (inl (t, h, p)) (inl (u, l, q)) = let (a, b) = x k e t u h l in p ∙ (λ m. record { main = a m; variables = acted (S .common) (b m) (seen e k) }) ∙ sym q
     steps-same x i j (inl (t, h, p)) (inr (n, q)) = absurd (n t h)
     steps-same x i j (inr (n, p)) (inl (u, l, q)) = absurd (n u l)
     steps-same x i j (inr (n, p)) (inr (m, q)) = p ∙ sym q
 
-    pub enabled-first : ExclusiveAt S k e → (t : Transition) → Enabled S k e t → first (enabled (S .common) k e) (S .transitions) ≡ some t
-    enabled-first x t h = decide (first (enabled (S .common) k e) (S .transitions)) refl
-      where
-        decide : (o : Option Transition) → first (enabled (S .common) k e) (S .transitions) ≡ o → o ≡ some t
-        decide none q = absurd (none-passes (enabled (S .common) k e) (S .transitions) q t (h .0) (h .1))
-        decide (some u) q = ap some (x u t (first-passes (enabled (S .common) k e) (S .transitions) u q) h)
-
-  pub shift-shifts : (k : Configuration) (w : List Event) → Shifts S k w (shift S k w)
+  shift-shifts : (k : Configuration) (w : List Event) → Shifts S k w (shift S k w)
   unfolding shift
   shift-shifts k [] = refl
   shift-shifts k (e ∷ w) = (stepped S k e, moved-step k e, shift-shifts (stepped S k e) w)
 
-  pub shifts-same : (k : Configuration) (w : List Event) → Exclusive S k w → (k′ : Configuration) → Shifts S k w k′ → k′ ≡ shift S k w
+  shifts-same : Exclusive S → (k : Configuration) (w : List Event) (k′ : Configuration) → Shifts S k w k′ → k′ ≡ shift S k w
   unfolding shift
-  shifts-same k [] x k′ p = sym p
-  shifts-same k (e ∷ w) x k′ (j, h, r) =
-      shifts-same (stepped S k e) w (x .1) k′ (subst (λ i. Shifts S i w k′) (steps-same k e (x .0) j (stepped S k e) h (moved-step k e)) r)
+  shifts-same x k [] k′ p = sym p
+  shifts-same x k (e ∷ w) k′ (j, h, r) =
+      shifts-same x (stepped S k e) w k′ (subst (λ i. Shifts S i w k′) (steps-same k e x j (stepped S k e) h (moved-step k e)) r)
 
-  exclusive-prefix : (k : Configuration) (u v : List Event) → Exclusive S k (u ++ v) → Exclusive S k u
-  exclusive-prefix k [] v x = tt
-  exclusive-prefix k (e ∷ u) v x = (x .0, exclusive-prefix (stepped S k e) u v (x .1))
+-- What is found by one way of leading is found by another that leads to the same configurations.
+module _ (S : Sheet) (R Q : Leading) (f : (w : List Event) (k : Configuration) → R w k → Q w k) where
+  breaks-over : {w : List Event} {i : ℕ} → Breaks S R w i → Breaks S Q w i
+  breaks-over b =
+      record {
+        w₁ = b .w₁;
+        entry = b .entry;
+        w₂ = b .w₂;
+        exit = b .exit;
+        parts = b .parts;
+        isEntry = b .isEntry;
+        isExit = b .isExit;
+        sameNumber = b .sameNumber;
+        sameUnit = b .sameUnit;
+        apart = b .apart;
+        before = b .before;
+        leads = f (b .w₁) (b .before) (b .leads);
+        there = b .there;
+        inState = b .inState;
+        ofUnit = b .ofUnit;
+        precondition = b .precondition;
+        postcondition = b .postcondition;
+      }
 
-  -- Where conditions exclude each other along a trace, sheet order is definition 3, and reaches the bad states that it reaches.
-  pub order-agrees : (k : Configuration) (w : List Event) → Exclusive S k w → (k′ : Configuration) → Shifts S k w k′ ↔ k′ ≡ shift S k w
-  order-agrees k w x k′ = (shifts-same k w x k′, λ p. subst (λ i. Shifts S k w i) (sym p) (shift-shifts k w))
+  counter-over : {w : List Event} → Counterexample S R w → Counterexample S Q w
+  counter-over {w} (inl (k, h, b)) = inl (k, f w k h, b)
+  counter-over (inr (i, b)) = inr (i, breaks-over b)
 
-  -- the same of the parts w₁ of definition 5
-  pub prefix-agrees : (u v : List Event) → Exclusive S (initial S) (u ++ v) → (k : Configuration) → Shifts S (initial S) u k ↔ k ≡ reached S u
-  prefix-agrees u v x = order-agrees (initial S) u (exclusive-prefix (initial S) u v x)
+module _ (S : Sheet) (R Q : Leading) (f : (w : List Event) (k : Configuration) → R w k → Q w k) (g : (w : List Event) (k : Configuration) → Q w k → R w k) where
+  clear-over : {w : List Event} → Clear S R w → Clear S Q w
+  clear-over h u v p c = h u v p (counter-over S Q R g c)
 
-  pub bad-agrees : (w : List Event) → Exclusive S (initial S) w
-      → ((k : Configuration) × Shifts S (initial S) w k × (isBad (S .common .bad) (k .main) ≡ true)) ↔ ReachesBad S w
-  bad-agrees w x =
-      (λ (k, h, b). subst (λ i. isBad (S .common .bad) (i .main) ≡ true) (shifts-same (initial S) w x k h) b, λ b. (shift S (initial S) w, shift-shifts (initial S) w, b))
+  finds-over : {w : List Event} {n : ℕ} {q t : Option ℕ} → Finds S R w n q t → Finds S Q w n q t
+  finds-over {w} h =
+      record {
+        counterexample = counter-over S R Q f (h .counterexample);
+        length = h .length;
+        to = h .to;
+        leads = f w (h .to) (h .leads);
+        bad = h .bad;
+        lowest = record {
+          unbroken = λ e i b. h .lowest .unbroken e i (breaks-over S Q R g b);
+          broken = λ i e. let (b, l) = h .lowest .broken i e in (breaks-over S R Q f b, λ j c. l j (breaks-over S Q R g c));
+        };
+      }
+
+  violated-over : {es : List Event} {n : ℕ} {q t : Option ℕ} → Violated S R es n q t → Violated S Q es n q t
+  violated-over h = record { w = h .w; e = h .e; rest = h .rest; parts = h .parts; taken = h .taken; before = clear-over (h .before); finds = finds-over (h .finds) }
+
+  refused-over : {es : List Event} {n i : ℕ} → Refused S R es n i → Refused S Q es n i
+  refused-over h = record { w = h .w; e = h .e; rest = h .rest; parts = h .parts; taken = h .taken; before = clear-over (h .before); refused = h .refused; some = h .some; at = h .at }
+
+  clean-over : {es : List Event} {n q k : ℕ} → Clean S R es n q k → Clean S Q es n q k
+  clean-over {es} h = record { taken = h .taken; clear = clear-over (h .clear); counted = h .counted; to = h .to; leads = f es (h .to) (h .leads); state = h .state; stillOpen = h .stillOpen }
+
+module _ (S : Sheet) (R Q : Leading) (f : (w : List Event) (k : Configuration) → R w k → Q w k) (g : (w : List Event) (k : Configuration) → Q w k → R w k) where
+  published-over : {es : List Event} {r : Ending} → Published S R es r → Published S Q es r
+  published-over h =
+      record {
+        whenViolated = λ n q t. let (a, b) = h .whenViolated n q t in (λ e. violated-over S R Q f g (a e), λ x. b (violated-over S Q R g f x));
+        whenRefused = λ n i. let (a, b) = h .whenRefused n i in (λ e. refused-over S R Q f g (a e), λ x. b (refused-over S Q R g f x));
+        whenClean = λ n q k. let (a, b) = h .whenClean n q k in (λ e. clean-over S R Q f g (a e), λ x. b (clean-over S Q R g f x));
+        read = h .read;
+      }
+
+pub order-agrees : OrderAgrees
+order-agrees s log a l x =
+    let S = sheetOf s in
+    published-over S (inOrder S) (asPrinted S) (λ w k p. subst (Shifts S (initial S) w) (sym p) (shift-shifts S (initial S) w)) (λ w k h. shifts-same S x (initial S) w k h) (demand2 s log a l)

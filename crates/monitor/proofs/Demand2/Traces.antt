@@ -16,8 +16,13 @@ use Rattle.sheet.proofs.Tables.{and-parts}
 use Rattle.step.specs.Moves.{Configuration, moved}
 use Rattle.step.specs.Calls.{isEntry}
 use Rattle.step.proofs.Lists.{none-some}
-use Rattle.monitor.specs.Monitor.{Armed, armedBy}
+use Rattle.monitor.specs.Monitor.{Armed, State, armedBy, fresh, refusal, offer}
 use Rattle.monitor.specs.Published.{shift}
+
+-- The state is reached from the fresh one by offering the events of the trace in order, each of them taken.
+pub data Leads (S : Sheet) : List Event → State → Type 0 where
+  begun : Leads S [] (fresh S)
+  more : {w : List Event} {σ : State} → Leads S w σ → (e : Event) → refusal S σ e ≡ 0 → Leads S (w ++ e ∷ []) (offer S σ e .state)
 
 -- A list with one more element at its end: its parts, and its prefixes.
 module _ {A : Type 0} where

@@ -8,18 +8,18 @@ use Rattle.sheet.specs.Bytes.{byte}
 use Rattle.sheet.specs.Parts.{Sheet}
 use Rattle.sheet.specs.Decode.{sheetOf}
 use Rattle.sheet.specs.Reading.{reading, sheetLayout}
-use Rattle.sheet.specs.Log.{Event, logReading, eventsOf}
+use Rattle.sheet.specs.Log.{Event}
 use Rattle.step.specs.Lists.{first, keep}
 use Rattle.step.specs.Moves.{Configuration, moved}
 use Rattle.step.specs.Calls.{isEntry}
 use Rattle.step.specs.Verdicts.{verdict}
 use Rattle.step.specs.Runs.{offered, runFrom}
-use Rattle.step.specs.Answers.{unlessRefused, ranAnswer}
+use Rattle.step.specs.Answers.{ranOn}
 use Rattle.engine.specs.Machine as Machine
 use Rattle.engine.specs.Machines.{ofSheet}
-use Rattle.engine.specs.Runs.{sheetRun}
+use Rattle.engine.specs.Runs.{endsIn, sheetRun}
 use Rattle.monitor.specs.Monitor as Monitor
-use Rattle.monitor.specs.Answers.{endsIn, runOf}
+use Rattle.monitor.specs.Answers.{runOf}
 
 refusal-same : (S : Sheet) (σ : Machine.State) (e : Event) → Monitor.refusal S σ e ≡ Machine.refusal (ofSheet S) σ e
 unfolding Monitor.refusal Machine.refusal ofSheet
@@ -52,7 +52,4 @@ run-same S es = λ i. runFrom (λ σ e. offer-same S σ e i) (λ σ. σ .verdict
 -- and so is what running a log answers
 pub answer-same : (s log : List ℕ) → sheetRun s log ≡ runOf s log
 unfolding sheetRun runOf
-answer-same s log = λ i. unlessRefused (reading sheetLayout s) (unlessRefused (logReading (byte s 5) log) (ranAnswer endsIn (sym-run i)))
-  where
-    sym-run : Machine.run (ofSheet (sheetOf s)) (eventsOf (byte s 5) log) ≡ Monitor.run (sheetOf s) (eventsOf (byte s 5) log)
-    sym-run = sym (run-same (sheetOf s) (eventsOf (byte s 5) log))
+answer-same s log = λ i. ranOn (reading sheetLayout s) (byte s 5) log endsIn (λ es. sym (run-same (sheetOf s) es) i)

@@ -21,12 +21,12 @@ use Rattle.sheet.proofs.Limits.{sheet-longest}
 use Rattle.sheet.proofs.Tables.{and-parts, and-both, every-weaker, every-append}
 use Rattle.sheet.proofs.Tests.{and-iff, eqb-iff, leb-iff}
 use Rattle.step.specs.declared.Call.{Call}
-use Rattle.step.specs.declared.Answer.the-variants as Answer
 use Rattle.step.specs.Calls.{eventOf}
 use Rattle.step.specs.Lists.{beside}
 use Rattle.step.specs.Padding.{zeroCall, padded}
 use Rattle.step.specs.Verdicts.{outcomeOf}
 use Rattle.step.specs.Runs.{Offered}
+use Rattle.step.specs.Answers.{taken, declined}
 use Rattle.step.proofs.Runs.{offered-answer}
 use Rattle.step.proofs.Rooms.{every-take, outcome-verdict, four, four-of-eight}
 use Rattle.engine.specs.Machine as Machine
@@ -52,8 +52,7 @@ use Rattle.monitor.specs.Padded.{zeroArms, unpadArmed, padArms, pad, vie
 use Rattle.monitor.specs.Packed.{runningOf, toNumbers, toTriples, callWords, unpacked}
 use Rattle.monitor.specs.Sound.{callSound, sound}
 use Rattle.monitor.specs.Walk.{tablesOf}
-use Rattle.monitor.specs.Answers.{offerOf}
-use Rattle.monitor.proofs.Offers.Answering.{offeredWith, offer-takes, offer-refuses}
+use Rattle.monitor.proofs.Offers.Answering.{Comes, offer-takes, offer-refuses}
 use Rattle.monitor.proofs.Offers.Machined.{offer-same}
 
 -- The words of a call show it.
@@ -292,12 +291,12 @@ module _ (s plan : List ℕ) (w : WatchState) (event : Record) (values : List �
   answered : next .answer ≡ refusal (sheetOf s) (view (sheetOf s) w) (eventOf event values)
   answered = ap (λ (x : Advanced). x .answer) en ∙ ap (λ (o : Offered Words). o .answer) came ∙ answer-there s (pre .0) w (pre .2) row (ew .0) (ew .2) (eventOf event values)
 
-  pub offer-refused : (next .answer ≡ 0 → ⊥) → offeredWith (Answer.Refused (next .answer)) w ≡ offerOf s w (eventOf event values)
-  offer-refused k = offer-refuses s w event values (pre .0) (pre .2) (next .answer) answered k
+  pub offer-refused : (next .answer ≡ 0 → ⊥) → Comes s w (eventOf event values) (declined (next .answer)) w
+  offer-refused k = offer-refuses s w (eventOf event values) (pre .0) (pre .2) (next .answer) answered k
 
   pub offer-taken : next .answer ≡ 0 → (row₁ variables₁ : List ℕ)
       → (row₁ ≡ offerIn s plan (words run row (w .variables)) given eight .state .row) × (variables₁ ≡ offerIn s plan (words run row (w .variables)) given eight .state .variables)
-      → (programs monitors : ℕ) → programs ≡ getD plan 1 0 → monitors ≡ getD plan 2 0 → (state : WatchState) → state ≡ unpacked programs monitors (words (next .run) row₁ variables₁) → offeredWith Answer.Taken state ≡ offerOf s w (eventOf event values)
+      → (programs monitors : ℕ) → programs ≡ getD plan 1 0 → monitors ≡ getD plan 2 0 → (state : WatchState) → state ≡ unpacked programs monitors (words (next .run) row₁ variables₁) → Comes s w (eventOf event values) taken state
   unfolding ofSheet
   offer-taken z row₁ variables₁ (e₁, e₂) programs monitors ep em state es =
       let c = carried s (pre .0) w (pre .2) row (ew .0) (ew .2) (eventOf event values) in
@@ -305,7 +304,7 @@ module _ (s plan : List ℕ) (w : WatchState) (event : Record) (values : List �
       let held : monitors ≡ sheetOf s .common .monitors = em ∙ ap (λ (p : List ℕ). getD p 2 0) (pre .1) ∙ c .monitors in
       let words-after : words (next .run) row₁ variables₁ ≡ after .state = (λ i. words (en i .run) (e₁ i) (e₂ i)) ∙ ap (λ (o : Offered Words). o .state) came in
       let made : state ≡ unpacked (sheetOf s .common .programs) (sheetOf s .common .monitors) (after .state) = es ∙ (λ i. unpacked (lent i) (held i) (words-after i)) in
-      offer-takes s w event values (pre .0) (pre .2) (next .answer) answered z state (made ∙ state-there s (pre .0) w (pre .2) row (ew .0) (ew .2) (eventOf event values) (ew .1) (eg .1) (eg .2))
+      offer-takes s w (eventOf event values) (pre .0) (pre .2) (next .answer) answered z state (made ∙ state-there s (pre .0) w (pre .2) row (ew .0) (ew .2) (eventOf event values) (ew .1) (eg .1) (eg .2))
 
 -- At most sixteen calls of a sound state are open, and the triples of an accepted sheet begin where its plan says.
 pub sound-opened : (S : Sheet) (w : WatchState) → soundState S w ≡ true → w .opened ≤ 16

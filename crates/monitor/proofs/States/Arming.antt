@@ -17,9 +17,8 @@ use Rattle.sheet.specs.Log.{Event}
 use Rattle.sheet.proofs.Accepted.{Accepted, sheet-together}
 use Rattle.sheet.proofs.Tables.{and-both}
 use Rattle.sheet.proofs.Tests.{and-iff, eqb-iff}
-use Rattle.step.specs.Lists.{numbers}
+use Rattle.step.specs.Lists.{Among, numbers}
 use Rattle.step.specs.Moves.{Configuration}
-use Rattle.step.proofs.Lists.{Among}
 use Rattle.step.proofs.Keeping.{among-every}
 use Rattle.monitor.specs.Monitor.{arms, armedBy, tripleIn}
 use Rattle.monitor.specs.Sound.{rising, ofOneState}

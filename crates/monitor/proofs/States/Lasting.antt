@@ -13,24 +13,17 @@ use Rattle.sheet.specs.Log.{Event}
 use Rattle.sheet.proofs.Accepted.{Accepted, reading-accepted}
 use Rattle.sheet.proofs.Tables.{and-parts, and-both}
 use Rattle.sheet.proofs.Tests.{and-iff, eqb-iff}
-use Rattle.step.specs.declared.Answer.{Answer}
 use Rattle.step.specs.declared.Call.{Call}
-use Rattle.step.specs.Runs.{offered}
-use Rattle.step.specs.Answers.{answerOf, unlessTaken}
+use Rattle.step.specs.Runs.{Offered, offered}
 use Rattle.step.specs.Padding.{zeroCall, padCall, clear, padded, isZeroCall}
 use Rattle.step.proofs.Rooms.{length-fit, every-fit, every-behind, padded-fit, zero-padded}
 use Rattle.monitor.specs.declared.WatchState.{WatchState}
-use Rattle.monitor.specs.declared.Offered.{Offered}
 use Rattle.monitor.specs.Monitor.{Armed, State, fresh, refusal, offer}
 use Rattle.monitor.specs.Sound.{callSound, sound}
 use Rattle.monitor.specs.Padded.{zeroArms, padArms, isZeroArms, tidyArms, pad, view, tidy, soundState, freshOf}
-use Rattle.monitor.specs.Answers.{offerRefusal, offerOf}
+use Rattle.monitor.specs.Answers.{offerOf}
 use Rattle.monitor.proofs.States.Views.{pad-view, view-back}
 use Rattle.monitor.proofs.States.Soundness.{fresh-sound, offer-sound}
-
--- an answer and a state
-abbrev answered : Answer → WatchState → Offered
-answered a w = record { answer = a; state = w }
 
 -- a test of all images, from one of the elements
 every-image : {A B : Type 0} (p : A → Bool) (q : B → Bool) (f : A → B) → ((x : A) → p x ≡ true → q (f x) ≡ true) → (l : List A) → every p l ≡ true → every q (map f l) ≡ true
@@ -69,17 +62,17 @@ module _ {s : List ℕ} (a : Accepted sheetLayout s) (σ : State) (h : sound (sh
       and-both c (and-both (tidy-pad (sheetOf s) σ h) (ap (sound (sheetOf s)) (view-back a σ h) ∙ h))
 
   -- so what offering an event answers there is what the definition answers
-  offered-pad : (e : Event) → offerOf s (pad σ) e ≡ answered (answerOf (offer (sheetOf s) σ e .answer)) (pad (offer (sheetOf s) σ e .state))
-  unfolding offerOf offerRefusal offer
+  offered-pad : (e : Event) → offerOf s (pad σ) e ≡ record { answer = offer (sheetOf s) σ e .answer; state = pad (offer (sheetOf s) σ e .state) }
+  unfolding offerOf offer
   offered-pad e = rw (reading-accepted sheetLayout s a, sound-pad, view-back a σ h) (go (refusal (sheetOf s) σ e) _)
     where
-      go : (n : ℕ) (τ : State) → answered (answerOf n) (unlessTaken n (pad σ) (pad (offered n σ τ .state))) ≡ answered (answerOf (offered n σ τ .answer)) (pad (offered n σ τ .state))
+      go : (n : ℕ) (τ : State) → offered n (pad σ) (pad (offered n σ τ .state)) ≡ record { answer = offered n σ τ .answer; state = pad (offered n σ τ .state) }
       go zero τ = refl
       go (suc n) τ = refl
 
 -- A state that offering events leads to from the fresh one, taken or refused.
 pub data Reached (s : List ℕ) : WatchState → Type 0 where
-  begun : Reached s (freshOf s .state)
+  begun : Reached s (freshOf s)
   more : {w : WatchState} → Reached s w → (e : Event) → Reached s (offerOf s w e .state)
 
 record Held (s : List ℕ) (w : WatchState) : Type 0 where
@@ -94,7 +87,7 @@ module _ {s : List ℕ} (a : Accepted sheetLayout s) where
   offer-keeps w h e =
       let (o, (t, g)) = simp and-iff at h in
       let σ = view (sheetOf s) w in
-      let next : offerOf s w e .state ≡ pad (offer (sheetOf s) σ e .state) = ap (λ (x : WatchState). offerOf s x e .state) (sym (pad-view (sheetOf s) w h)) ∙ ap (λ (x : Offered). x .state) (offered-pad a σ g e) in
+      let next : offerOf s w e .state ≡ pad (offer (sheetOf s) σ e .state) = ap (λ (x : WatchState). offerOf s x e .state) (sym (pad-view (sheetOf s) w h)) ∙ ap (λ (x : Offered WatchState). x .state) (offered-pad a σ g e) in
       ap (soundState (sheetOf s)) next ∙ sound-pad a (offer (sheetOf s) σ e .state) (offer-sound a σ e g)
 
   held : {w : WatchState} → Reached s w → Held s w
@@ -102,7 +95,7 @@ module _ {s : List ℕ} (a : Accepted sheetLayout s) where
   held begun = record { state = fresh (sheetOf s); padded = rw (reading-accepted sheetLayout s a); good = fresh-sound a }
   held (more r e) =
       let g = held r in
-      let next = ap (λ (w : WatchState). offerOf s w e .state) (g .padded) ∙ ap (λ (o : Offered). o .state) (offered-pad a (g .state) (g .good) e) in
+      let next = ap (λ (w : WatchState). offerOf s w e .state) (g .padded) ∙ ap (λ (o : Offered WatchState). o .state) (offered-pad a (g .state) (g .good) e) in
       record { state = offer (sheetOf s) (g .state) e .state; padded = next; good = offer-sound a (g .state) e (g .good) }
 
   -- From fresh every state is sound: no event meets 9.

@@ -26,7 +26,7 @@ use Rattle.step.proofs.Moving.{sheet-good, moved-main, moved-variables, verdict
 use Rattle.step.proofs.Keeping.{every-among, among-every, every-keep, length-keep, distinct-keep, distinct-more}
 use Rattle.monitor.specs.Monitor.{Armed, State, fresh, tripleIn, fails, failing, ofNumber, armedBy, entered, exited, refusal, offer}
 use Rattle.monitor.specs.Sound.{callSound, sound}
-use Rattle.monitor.specs.Demand.{Taken, begun, more}
+use Rattle.monitor.proofs.Demand2.Traces.{Leads, begun, more}
 use Rattle.monitor.proofs.Demand2.Calls.{free}
 use Rattle.monitor.proofs.States.Arming.{armed-of, armed-rising, armed-one-state, armed-few}
 
@@ -114,6 +114,6 @@ module _ {s : List ℕ} (a : Accepted sheetLayout s) (σ : State) (e : Event) wh
       go false y z = exited-sound a σ e h
 
 -- so every state of a run is sound, and no run meets 9
-pub taken-sound : {s : List ℕ} (a : Accepted sheetLayout s) {w : List Event} {σ : State} → Taken (sheetOf s) w σ → sound (sheetOf s) σ ≡ true
+pub taken-sound : {s : List ℕ} (a : Accepted sheetLayout s) {w : List Event} {σ : State} → Leads (sheetOf s) w σ → sound (sheetOf s) σ ≡ true
 taken-sound a begun = fresh-sound a
 taken-sound a (more t e z) = offer-sound a _ e (taken-sound a t)

@@ -10,11 +10,9 @@ use Rattle.sheet.specs.Parts.{Network}
 use Rattle.sheet.specs.Reading.{reading, networkLayout}
 use Rattle.sheet.specs.Log.{Event, logReading, eventsOf}
 use Rattle.step.specs.declared.Verdict.{Verdict}
-use Rattle.step.specs.declared.RunAnswer.{RunAnswer}
-use Rattle.step.specs.declared.RunAnswer.the-variants.{Clean}
 use Rattle.step.specs.Lists.{distinct}
 use Rattle.step.specs.Runs.{Ran, unlessJudged, unlessRefusedAt, runFrom}
-use Rattle.step.specs.Answers.{unlessRefused, ranAnswer}
+use Rattle.step.specs.Answers.{Ending, clean, cleanIn, unlessRefused, ranAnswer}
 use Rattle.engine.specs.Machine as Engine
 use Rattle.engine.specs.Machine.{Armed}
 use Rattle.engine.specs.Machines.{ofNetwork}
@@ -22,16 +20,20 @@ use Rattle.engine.specs.Runs as Runs
 use Rattle.engine.specs.Runs.{networkRun}
 use Rattle.network.specs.Network as Network
 use Rattle.network.specs.Grouped.{rowOf, ungrouped}
-use Rattle.network.specs.Answers.{endsIn, runOf}
+use Rattle.network.specs.Answers.{runOf}
 use Rattle.network.proofs.ByMachine.Apart.{Apart, offer-apart}
 use Rattle.network.proofs.ByMachine.ByCalls.{answer-same, state-same}
 
 -- what a run answers after an event, from what the rest of it does
-turned : {S T : Type 0} (f : S → RunAnswer) (g : T → RunAnswer) (n i : ℕ) (o : Option Verdict) (r : Ran S) (q : Ran T) → ranAnswer f r ≡ ranAnswer g q
+turned : {S T : Type 0} (f : S → Ending) (g : T → Ending) (n i : ℕ) (o : Option Verdict) (r : Ran S) (q : Ran T) → ranAnswer f r ≡ ranAnswer g q
     → ranAnswer f (unlessRefusedAt n i (unlessJudged o r)) ≡ ranAnswer g (unlessRefusedAt n i (unlessJudged o q))
 turned f g zero i none r q h = h
 turned f g zero i (some v) r q h = refl
 turned f g (suc n) i o r q h = refl
+
+-- a clean end
+abbrev pub endsIn : Network.State → Ending
+endsIn σ = cleanIn (σ .position) (σ .configuration) (σ .calls)
 
 module _ (N : Network) where
   abbrev after : ℕ → Network.State → List Event → Ran Network.State
@@ -40,7 +42,7 @@ module _ (N : Network) where
   from-same : (es : List Event) (i : ℕ) (τ : Engine.State) → Apart τ
       → ranAnswer endsIn (runFrom (Network.offer N) (λ σ. σ .verdict) i (ungrouped τ) es) ≡ ranAnswer Runs.endsIn (runFrom (Engine.offer (ofNetwork N)) (λ τ. τ .verdict) i τ es)
   unfolding runFrom ungrouped
-  from-same [] i τ d = ap (Clean (τ .position) (τ .configuration .main)) (length-map (τ .calls) (λ (a : Armed). a .call))
+  from-same [] i τ d = ap (clean (τ .position) (τ .configuration .main)) (length-map (τ .calls) (λ (a : Armed). a .call))
   from-same (e ∷ es) i τ d =
       let o = Engine.offer (ofNetwork N) τ e in
       ap₂ (λ (n : ℕ) (σ : Network.State). ranAnswer endsIn (unlessRefusedAt n i (unlessJudged (σ .verdict) (after (suc i) σ es)))) (answer-same N τ e) (state-same N τ e d)
@@ -54,4 +56,4 @@ module _ (N : Network) where
 -- On a network's bytes and a log's.
 pub run-same : (n log : List ℕ) → networkRun n log ≡ runOf n log
 unfolding networkRun runOf
-run-same n log = ap (λ (r : RunAnswer). unlessRefused (reading networkLayout n) (unlessRefused (logReading (byte n 5) log) r)) (sym (run-grouped (networkOf n) (eventsOf (byte n 5) log)))
+run-same n log = ap (λ (r : Ending). unlessRefused (reading networkLayout n) (unlessRefused (logReading (byte n 5) log) r)) (sym (run-grouped (networkOf n) (eventsOf (byte n 5) log)))

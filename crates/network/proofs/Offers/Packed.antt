@@ -21,12 +21,12 @@ use Rattle.sheet.proofs.Accepted.{accepted, length-said}
 use Rattle.sheet.proofs.Tables.{and-parts, and-both, every-weaker}
 use Rattle.sheet.proofs.Tests.{and-iff, not-iff, eqb-iff, leb-iff}
 use Rattle.step.specs.declared.Call.{Call}
-use Rattle.step.specs.declared.Answer.the-variants as Answer
 use Rattle.step.specs.Lists.{keep, distinct}
 use Rattle.step.specs.Calls as Calls
 use Rattle.step.specs.Padding.{zeroCall, padCall, padded, unpad}
 use Rattle.step.specs.Verdicts.{outcomeOf}
 use Rattle.step.specs.Runs.{Offered}
+use Rattle.step.specs.Answers.{taken, declined}
 use Rattle.step.specs.Calls.{eventOf}
 use Rattle.step.proofs.Lists.{any-map}
 use Rattle.step.proofs.Runs.{offered-answer}
@@ -55,8 +55,7 @@ use Rattle.network.specs.Padded.{zeroChecker, pad, view, tidy, soundStat
 use Rattle.network.specs.Grouped.{checker, rowOf, ungrouped, templatesOf, groupedCalls, grouped}
 use Rattle.network.specs.Packed.{runningOf, front, ownOf, armsOf, wordsIn, callWords, checkersIn, unpacked}
 use Rattle.network.specs.Walk.{tablesOf}
-use Rattle.network.specs.Answers.{offerOf}
-use Rattle.network.proofs.Offers.Answering.{offeredWith, offer-takes, offer-refuses}
+use Rattle.network.proofs.Offers.Answering.{Comes, offer-takes, offer-refuses}
 use Rattle.network.proofs.ByMachine.Bound.{bound-none, turned}
 use Rattle.network.proofs.ByMachine.ByCalls.{templates-back, answer-same, state-same}
 use Rattle.network.proofs.Offers.Grouping.{ungrouped-grouped, grouped-few, grouped-steady}
@@ -278,13 +277,13 @@ module _ (s plan : List ℕ) (w : NetworkState) (event : Record) (values : List 
   answered : next .answer ≡ refusal (networkOf s) (view (networkOf s) w) (eventOf event values)
   answered = ap (λ (x : Advanced). x .answer) en ∙ ap (λ (o : Offered Words). o .answer) came ∙ answer-there s (pre .0) (pre .1) w (pre .3) row (ew .0) (ew .2) (eventOf event values)
 
-  pub offer-refused : (next .answer ≡ 0 → ⊥) → offeredWith (Answer.Refused (next .answer)) w ≡ offerOf s w (eventOf event values)
-  offer-refused k = offer-refuses s w event values (pre .0) (pre .3) (next .answer) answered k
+  pub offer-refused : (next .answer ≡ 0 → ⊥) → Comes s w (eventOf event values) (declined (next .answer)) w
+  offer-refused k = offer-refuses s w (eventOf event values) (pre .0) (pre .3) (next .answer) answered k
 
   pub offer-taken : next .answer ≡ 0 → (row₁ variables₁ : List ℕ)
       → (row₁ ≡ offerIn s plan (words run row (w .variables)) given eight .state .row) × (variables₁ ≡ offerIn s plan (words run row (w .variables)) given eight .state .variables)
       → (programs monitors : ℕ) → programs ≡ getD plan 1 0 → monitors ≡ getD plan 2 0 → (state : NetworkState) → state ≡ unpacked programs monitors (words (next .run) row₁ variables₁)
-      → offeredWith Answer.Taken state ≡ offerOf s w (eventOf event values)
+      → Comes s w (eventOf event values) taken state
   unfolding ofNetwork
   offer-taken z row₁ variables₁ (e₁, e₂) programs monitors ep em state es =
       let c = carried s (pre .0) (pre .1) w (pre .3) row (ew .0) (ew .2) (eventOf event values) in
@@ -292,7 +291,7 @@ module _ (s plan : List ℕ) (w : NetworkState) (event : Record) (values : List 
       let held : monitors ≡ networkOf s .common .monitors = em ∙ ap (λ (p : List ℕ). getD p 2 0) (pre .2) ∙ c .monitors in
       let words-after : words (next .run) row₁ variables₁ ≡ after .state = (λ i. words (en i .run) (e₁ i) (e₂ i)) ∙ ap (λ (o : Offered Words). o .state) came in
       let made : state ≡ unpacked (networkOf s .common .programs) (networkOf s .common .monitors) (after .state) = es ∙ (λ i. unpacked (lent i) (held i) (words-after i)) in
-      offer-takes s w event values (pre .0) (pre .3) (next .answer) answered z state (made ∙ state-there s (pre .0) (pre .1) w (pre .3) row (ew .0) (ew .2) (eventOf event values) (ew .1) (eg .1) (eg .2))
+      offer-takes s w (eventOf event values) (pre .0) (pre .3) (next .answer) answered z state (made ∙ state-there s (pre .0) (pre .1) w (pre .3) row (ew .0) (ew .2) (eventOf event values) (ew .1) (eg .1) (eg .2))
 
 -- At most sixteen calls of a sound state are open, and at most sixty-four checkers live.
 pub sound-opened : (N : Network) (w : NetworkState) → soundState N w ≡ true → (w .opened ≤ 16) × (w .living ≤ 64)

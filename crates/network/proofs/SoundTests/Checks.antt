@@ -18,12 +18,12 @@ use Rattle.sheet.proofs.Accepted.{Accepted, accepted, bounds}
 use Rattle.sheet.proofs.Tables.{and-assoc, and-true, every-map, every-same}
 use Rattle.sheet.proofs.Tests.{and-iff, eqb-iff}
 use Rattle.step.specs.declared.Call.{Call}
-use Rattle.step.specs.Lists.{any, keep, distinct, placeOf}
+use Rattle.step.specs.Lists.{Among, any, keep, distinct, placeOf}
 use Rattle.step.specs.Calls as Calls
 use Rattle.step.specs.Verdicts.{verdictFits, verdictIn}
 use Rattle.step.specs.Padding.{unpad, clear, padded, isZeroCall}
 use Rattle.step.proofs.Rooms.{tidy-calls, every-take}
-use Rattle.step.proofs.Lists.{Among, any-map}
+use Rattle.step.proofs.Lists.{any-map}
 use Rattle.step.proofs.Keeping.{every-among, place-map}
 use Rattle.network.specs.declared.Checker.{Checker}
 use Rattle.network.specs.declared.NetworkState.{NetworkState}

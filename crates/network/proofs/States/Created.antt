@@ -18,11 +18,11 @@ use Rattle.sheet.specs.Log.{Event}
 use Rattle.sheet.proofs.Accepted.{Accepted, network-pair, network-pairs}
 use Rattle.sheet.proofs.Tables.{and-both, every-append, every-weaker}
 use Rattle.sheet.proofs.Tests.{and-iff, eqb-iff}
-use Rattle.step.specs.Lists.{first, keep, any}
+use Rattle.step.specs.Lists.{Among, first, keep, any}
 use Rattle.step.specs.Meets.{meets}
 use Rattle.step.specs.Moves.{Configuration, seen, enabled}
 use Rattle.step.specs.Calls.{Call}
-use Rattle.step.proofs.Lists.{Among, keep-append, first-passes, kept-passes}
+use Rattle.step.proofs.Lists.{keep-append, first-passes, kept-passes}
 use Rattle.step.proofs.Turns.{any-append}
 use Rattle.step.proofs.Keeping.{every-among, among-every, among-at, length-keep}
 use Rattle.network.specs.declared.Checker.{Checker}

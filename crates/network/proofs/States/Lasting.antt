@@ -13,26 +13,19 @@ use Rattle.sheet.specs.Log.{Event}
 use Rattle.sheet.proofs.Accepted.{Accepted, reading-accepted}
 use Rattle.sheet.proofs.Tables.{and-parts, and-both}
 use Rattle.sheet.proofs.Tests.{and-iff, eqb-iff}
-use Rattle.step.specs.declared.Answer.{Answer}
 use Rattle.step.specs.declared.Call.{Call}
 use Rattle.step.specs.Calls as Calls
-use Rattle.step.specs.Runs.{offered}
-use Rattle.step.specs.Answers.{answerOf, unlessTaken}
+use Rattle.step.specs.Runs.{Offered, offered}
 use Rattle.step.specs.Padding.{zeroCall, padCall, clear, padded, isZeroCall}
 use Rattle.step.proofs.Rooms.{length-fit, every-fit, every-behind, padded-fit, zero-padded}
 use Rattle.network.specs.declared.NetworkState.{NetworkState}
-use Rattle.network.specs.declared.Offered.{Offered}
 use Rattle.network.specs.Network.{State, fresh, refusal, offer}
 use Rattle.network.specs.Sound.{callSound, sound}
 use Rattle.network.specs.Padded.{zeroChecker, isZeroChecker, pad, view, tidy, soundState, freshOf}
-use Rattle.network.specs.Answers.{offerRefusal, offerOf}
+use Rattle.network.specs.Answers.{offerOf}
 use Rattle.network.proofs.States.Living.{checkers-few}
 use Rattle.network.proofs.States.Views.{pad-view, view-back}
 use Rattle.network.proofs.States.Soundness.{fresh-sound, offer-sound}
-
--- an answer and a state
-abbrev pub answered : Answer → NetworkState → Offered
-answered a w = record { answer = a; state = w }
 
 module _ {s : List ℕ} (a : Accepted networkLayout s) (σ : State) (h : sound (networkOf s) σ ≡ true) where
   calls-padded : (P : ℕ) (l : List Calls.Call) → every (λ (c : Calls.Call). eqb (length (c .kept)) P) l ≡ true → every (λ (c : Call). padded 8 P (c .kept)) (map padCall l) ≡ true
@@ -66,17 +59,17 @@ module _ {s : List ℕ} (a : Accepted networkLayout s) (σ : State) (h : sound (
       and-both c (and-both (le-leb _ _ (checkers-few (networkOf s) σ h)) (and-both tidy-pad (ap (sound (networkOf s)) (view-back a σ h) ∙ h)))
 
   -- so what offering an event answers there is what the definition answers
-  pub offered-pad : (e : Event) → offerOf s (pad σ) e ≡ answered (answerOf (offer (networkOf s) σ e .answer)) (pad (offer (networkOf s) σ e .state))
-  unfolding offerOf offerRefusal offer
+  pub offered-pad : (e : Event) → offerOf s (pad σ) e ≡ record { answer = offer (networkOf s) σ e .answer; state = pad (offer (networkOf s) σ e .state) }
+  unfolding offerOf offer
   offered-pad e = rw (reading-accepted networkLayout s a, sound-pad, view-back a σ h) (go (refusal (networkOf s) σ e) _)
     where
-      go : (n : ℕ) (τ : State) → answered (answerOf n) (unlessTaken n (pad σ) (pad (offered n σ τ .state))) ≡ answered (answerOf (offered n σ τ .answer)) (pad (offered n σ τ .state))
+      go : (n : ℕ) (τ : State) → offered n (pad σ) (pad (offered n σ τ .state)) ≡ record { answer = offered n σ τ .answer; state = pad (offered n σ τ .state) }
       go zero τ = refl
       go (suc n) τ = refl
 
 -- A state that offering events leads to from the fresh one, taken or refused.
 pub data Reached (s : List ℕ) : NetworkState → Type 0 where
-  begun : Reached s (freshOf s .state)
+  begun : Reached s (freshOf s)
   more : {w : NetworkState} → Reached s w → (e : Event) → Reached s (offerOf s w e .state)
 
 record Held (s : List ℕ) (w : NetworkState) : Type 0 where
@@ -91,7 +84,7 @@ module _ {s : List ℕ} (a : Accepted networkLayout s) where
   offer-keeps w h e =
       let (o, (l, (t, g))) = simp and-iff at h in
       let σ = view (networkOf s) w in
-      let next : offerOf s w e .state ≡ pad (offer (networkOf s) σ e .state) = ap (λ (x : NetworkState). offerOf s x e .state) (sym (pad-view (networkOf s) w h)) ∙ ap (λ (x : Offered). x .state) (offered-pad a σ g e) in
+      let next : offerOf s w e .state ≡ pad (offer (networkOf s) σ e .state) = ap (λ (x : NetworkState). offerOf s x e .state) (sym (pad-view (networkOf s) w h)) ∙ ap (λ (x : Offered NetworkState). x .state) (offered-pad a σ g e) in
       ap (soundState (networkOf s)) next ∙ sound-pad a (offer (networkOf s) σ e .state) (offer-sound a σ e g)
 
   held : {w : NetworkState} → Reached s w → Held s w
@@ -99,7 +92,7 @@ module _ {s : List ℕ} (a : Accepted networkLayout s) where
   held begun = record { state = fresh (networkOf s); padded = rw (reading-accepted networkLayout s a); good = fresh-sound a }
   held (more r e) =
       let g = held r in
-      let next = ap (λ (w : NetworkState). offerOf s w e .state) (g .padded) ∙ ap (λ (o : Offered). o .state) (offered-pad a (g .state) (g .good) e) in
+      let next = ap (λ (w : NetworkState). offerOf s w e .state) (g .padded) ∙ ap (λ (o : Offered NetworkState). o .state) (offered-pad a (g .state) (g .good) e) in
       record { state = offer (networkOf s) (g .state) e .state; padded = next; good = offer-sound a (g .state) e (g .good) }
 
   -- It is sound: from fresh no event meets 9.

@@ -10,9 +10,9 @@ use lib.Dec.{eqb, leb}
 use lib.ListN.{length, take}
 use Rattle.sheet.specs.Table.{every}
 use Rattle.sheet.proofs.Tables.{and-parts, and-both, every-map}
-use Rattle.step.specs.Lists.{keep, any, placeOf}
+use Rattle.step.specs.Lists.{Among, keep, any, placeOf}
 use Rattle.step.specs.Calls.{Call}
-use Rattle.step.proofs.Lists.{Among, kept-passes}
+use Rattle.step.proofs.Lists.{kept-passes}
 use Rattle.step.proofs.Searching.{place-low}
 use Rattle.step.proofs.Keeping.{every-among, among-every}
 use Rattle.network.specs.declared.Checker.{Checker}

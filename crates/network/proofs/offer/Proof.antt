@@ -1,6 +1,7 @@
 -- `offer` meets its contract. Assumes nothing.
 use borrow.Author.Needs.{needs}
 use Rattle.sheet.proofs.Answers.{answer-accepted}
+use Rattle.step.specs.Calls.{eventOf}
 use Rattle.engine.specs.Prepared.{networkInto}
 use Rattle.engine.proofs.Plans.Preparing.{planned}
 use Rattle.network.proofs.Offers.Answering.{offer-unread}
@@ -10,13 +11,13 @@ use Rattle.network.proofs.offer.Tie as tie
 offer-accepted-requires : tie.Need-offer-accepted-requires
 offer-accepted-requires c κs =
     let a = c .before .before .before .before .before .before .before .args in
-    let h = answer-accepted _ _ (c .before .before .before .prepare-network .ensures .0) (search needs) in
+    let h = answer-accepted _ (c .before .before .before .prepare-network .result) (c .before .before .before .prepare-network .ensures .0) (search needs) in
     (h, planned _ h (networkInto (a .s .now)) _ (c .before .before .before .prepare-network .ensures .1))
 
 returns-2 : tie.Need-returns-2
 returns-2 c =
     let a = c .before .before .before .before .before .before .before .args in
-    offer-unread (a .s .now) _ (c .before .before .before .prepare-network .ensures .0) _ (search needs) (a .state) (a .event) (a .values .now)
+    offer-unread (a .s .now) (a .state) (eventOf (a .event) (a .values .now)) (c .before .before .before .prepare-network .result) (c .before .before .before .prepare-network .ensures .0) _ (search needs)
 
 pub offer-spec : {M : Type 1} → statement M
 offer-spec =

@@ -18,7 +18,7 @@ use Rattle.sheet.specs.Table.{records, table, starts, fit}
 use Rattle.sheet.specs.Decode.{wordForm, wide, textForm, conditionsIn, actionsIn}
 use Rattle.sheet.specs.Reading.{Layout}
 use Rattle.sheet.specs.Log.{recordSize, logReading, recordsIn}
-use Rattle.sheet.specs.Answer.{answer, logAnswer, placesOf}
+use Rattle.sheet.specs.Answer.{accepted, refused, readOf, answer, placesOf}
 use Rattle.sheet.specs.Walk.{Finds}
 use Rattle.sheet.proofs.Tables.{and-parts, table-step}
 use Rattle.sheet.proofs.Readers.Loops.{byte-here, byte-past}
@@ -26,7 +26,7 @@ use Rattle.sheet.proofs.Readers.Indexing.{sets-fit}
 use Rattle.sheet.proofs.Readers.Refusals.{texts-there, transitions-there, last-there}
 
 -- a number that is not 0 is a refusal
-pub answer-refused : (n : ℕ) → (n ≡ 0 → ⊥) → sheet.Refused n ≡ answer n
+pub answer-refused : (n : ℕ) → (n ≡ 0 → ⊥) → refused n ≡ answer n
 answer-refused zero h = absurd (h refl)
 answer-refused (suc n) h = refl
 
@@ -42,7 +42,7 @@ module _ {T R : Type 0} (F : Layout T R) (s : List ℕ) (t : Tables) (f : Finds 
   places-found = λ i. record { conditions = first-index i; actions = second-index i; transitions = transitions-there F s t f i; last = last-there F s t f i }
 
 module _ (P : ℕ) (s : List ℕ) (w v l : ℕ) (ew : w ≡ word s 0) (ev : v ≡ byte s 4) (el : l ≡ byte s 5) where
-  pub log-16 : (leb 6 (length s) && (eqb w (length s) && eqb v 1)) ≡ false → log.Refused 16 ≡ logAnswer (logReading P s) (recordsIn P s)
+  pub log-16 : (leb 6 (length s) && (eqb w (length s) && eqb v 1)) ≡ false → refused 16 ≡ readOf (logReading P s) (recordsIn P s)
   unfolding logReading
   log-16 e = rw (← ew, ← ev, e)
 
@@ -50,16 +50,16 @@ module _ (P : ℕ) (s : List ℕ) (w v l : ℕ) (ew : w ≡ word s 0) (ev : v �
     pub log-long : 6 ≤ length s
     log-long = leb-true 6 (length s) (and-parts (leb 6 (length s)) (eqb w (length s) && eqb v 1) a .0)
 
-    pub log-17 : (l ≡ P → ⊥) → log.Refused 17 ≡ logAnswer (logReading P s) (recordsIn P s)
+    pub log-17 : (l ≡ P → ⊥) → refused 17 ≡ readOf (logReading P s) (recordsIn P s)
     unfolding logReading
     log-17 e = rw (← ew, ← ev, a, ← el, ne-eqb l P e)
 
     module _ (b : l ≡ P) where
-      pub log-18 : ((length s - 6) % recordSize P ≡ 0 → ⊥) → log.Refused 18 ≡ logAnswer (logReading P s) (recordsIn P s)
+      pub log-18 : ((length s - 6) % recordSize P ≡ 0 → ⊥) → refused 18 ≡ readOf (logReading P s) (recordsIn P s)
       unfolding logReading
       log-18 e = rw (← ew, ← ev, a, ← el, eq-eqb l P b, ne-eqb ((length s - 6) % recordSize P) 0 e)
 
-      pub log-accepted : (length s - 6) % recordSize P ≡ 0 → log.Records ((length s - 6) / recordSize P) ≡ logAnswer (logReading P s) (recordsIn P s)
+      pub log-accepted : (length s - 6) % recordSize P ≡ 0 → accepted ((length s - 6) / recordSize P) ≡ readOf (logReading P s) (recordsIn P s)
       unfolding logReading recordsIn
       log-accepted e = rw (← ew, ← ev, a, ← el, eq-eqb l P b, eq-eqb ((length s - 6) % recordSize P) 0 e)
 

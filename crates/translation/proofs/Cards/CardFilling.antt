@@ -18,15 +18,15 @@ use Rattle.sheet.specs.Table.{table}
 use Rattle.sheet.specs.Decode.{wide, textForm, pairedForm, templateForm, conditionsIn, actionsIn, transitionsIn, lastIn, conditionsAt, actionsAt, transitionsAt, lastAt, commonOf, sheetOf, networkOf}
 use Rattle.sheet.specs.Encode.{halfBytes, tableBytes, headerBytes, encode}
 use Rattle.sheet.specs.Reading.{reading, sheetLayout, networkLayout}
-use Rattle.sheet.specs.Answer.{answer, headerOf, placesOf}
+use Rattle.sheet.specs.Answer.{readingPaper, answer, headerOf, placesOf}
 use Rattle.sheet.proofs.Accepted.{accepted, reading-accepted}
 use Rattle.sheet.proofs.Encoding.{encode-wide}
 use Rattle.sheet.proofs.Tables.{length-records}
 use Rattle.translation.specs.declared.Translated.{Translated}
-use Rattle.translation.specs.declared.Translated.the-variants.{Written, Refused}
+use Rattle.translation.specs.declared.Translated.the-variants.{Refused}
 use Rattle.translation.specs.Translate.{translate}
 use Rattle.translation.specs.Card.{joinedConditions, guardedFrom, withConditions, separated, card}
-use Rattle.translation.specs.Answer.{networkBytes, translatedWith, bufferWith, translatedOf, cardBytes, cardFits, cardRefusal, cardOf, cardBufferOf}
+use Rattle.translation.specs.Answer.{networkBytes, Writing, written, refused, translatedPaper, translatedWith, bufferWith, translatedOf, cardBytes, cardFits, cardRefusal, cardOf, cardBufferOf}
 use Rattle.translation.specs.Walk.{Writes, headerAt}
 use Rattle.translation.specs.CardWalk.{PreparedNetwork, separatedBytes, joinedShort, separateRefusal}
 use Rattle.translation.proofs.Networks.{translate-accepted, translate-decodes}
@@ -91,7 +91,7 @@ module _ {n : List ℕ} {h : Header} {index : List ℕ} {from last : ℕ} (p : P
       both .all ∙ ap (sets o 0) net ∙ sets-eq (encode true M) o 0 (omega arith) ∙ ap (λ (k : ℕ). encode true M ++ drop k o) none
 
 -- What separating answers, and the buffer.
-abbrev Separates : List ℕ → List ℕ → List ℕ → Translated → Type 0
+abbrev Separates : List ℕ → List ℕ → List ℕ → Writing → Type 0
 Separates n o x r = (r ≡ translatedWith (separateRefusal n o) (length (separatedBytes n))) × (x ≡ bufferWith (separateRefusal n o) (separatedBytes n) o)
 
 and-false : (b : Bool) → (b && false) ≡ false
@@ -99,11 +99,11 @@ and-false true = refl
 and-false false = refl
 
 module _ (n o : List ℕ) where
-  pub joined-long : joinedShort n ≡ false → Separates n o o (Refused 21)
+  pub joined-long : joinedShort n ≡ false → Separates n o o (refused 21)
   joined-long h = rw h (refl, refl)
 
   module _ (size : ℕ) (e : size ≡ length (separatedBytes n)) where
-    pub whole-long : 65535 < size → Separates n o o (Refused 21)
+    pub whole-long : 65535 < size → Separates n o o (refused 21)
     whole-long h =
         let t = lt-leb (length (separatedBytes n)) 65535 (omega arith) in
         rw (t, and-false (joinedShort n)) (refl, refl)
@@ -112,12 +112,12 @@ module _ (n o : List ℕ) where
       fits : leb (length (separatedBytes n)) 65535 ≡ true
       fits = le-leb (length (separatedBytes n)) 65535 (omega arith)
 
-      pub buffer-short : length o < size → Separates n o o (Refused 19)
+      pub buffer-short : length o < size → Separates n o o (refused 19)
       buffer-short h =
           let t = lt-leb (length (separatedBytes n)) (length o) (omega arith) in
           rw (s, fits, t) (refl, refl)
 
-      pub buffer-holds : size ≤ length o → (x : List ℕ) → x ≡ separatedBytes n ++ drop (length (separatedBytes n)) o → Separates n o x (Written size)
+      pub buffer-holds : size ≤ length o → (x : List ℕ) → x ≡ separatedBytes n ++ drop (length (separatedBytes n)) o → Separates n o x (written size)
       buffer-holds h x f =
           let t = le-leb (length (separatedBytes n)) (length o) (omega arith) in
           rw (s, fits, t, ← e) (refl, f ∙ ap (λ (m : ℕ). separatedBytes n ++ drop m o) (sym e))
@@ -141,17 +141,17 @@ module _ (s : List ℕ) (a : reading sheetLayout s ≡ 0) where
     unfolding cardRefusal cardFits
     same-refusal o = rw (a, e, decodes, ← same-bytes, e, decodes) refl
 
-    pub carded : (o x : List ℕ) (r : Translated) → Separates n o x r → (r ≡ cardOf s o) × (x ≡ cardBufferOf s o)
+    pub carded : (o x : List ℕ) (r : Writing) → Separates n o x r → (r ≡ cardOf s o) × (x ≡ cardBufferOf s o)
     unfolding cardOf cardBufferOf
     carded o x r (f, g) = rw (← same-refusal o, ← same-bytes) (f, g)
 
   -- a buffer of 8,192 bytes is never too short
-  pub never-short : (o buffer : List ℕ) → 8192 ≤ length buffer → (t : Translated) → t ≡ translatedOf s buffer → (k : ℕ) → t ≡ Refused k → (Refused k ≡ cardOf s o) × (o ≡ cardBufferOf s o)
+  pub never-short : (o buffer : List ℕ) → 8192 ≤ length buffer → (t : Translated) → translatedPaper t ≡ translatedOf s buffer → (k : ℕ) → t ≡ Refused k → (refused k ≡ cardOf s o) × (o ≡ cardBufferOf s o)
   never-short o buffer h t e k f =
-      let (m, g, z) = refused-reading s buffer h k (sym e ∙ f) in
+      let (m, g, z) = refused-reading s buffer h k (sym e ∙ ap translatedPaper f) in
       absurd (omega arith)
 
 -- Where the sheet is refused.
-pub card-unread : (s o : List ℕ) (r : Reading) → r ≡ answer (reading sheetLayout s) → (n : ℕ) → r ≡ reading.Refused n → (Refused n ≡ cardOf s o) × (o ≡ cardBufferOf s o)
+pub card-unread : (s o : List ℕ) (r : Reading) → readingPaper r ≡ answer (reading sheetLayout s) → (n : ℕ) → r ≡ reading.Refused n → (refused n ≡ cardOf s o) × (o ≡ cardBufferOf s o)
 unfolding cardOf cardBufferOf cardRefusal
 card-unread s o r er n h = unread-with s o (cardBytes s) _ r er n h

@@ -14,16 +14,14 @@ use Rattle.sheet.specs.declared.Reading.the-variants as reading
 use Rattle.sheet.specs.Decode.{wide, textForm, transitionForm, conditionsIn, actionsIn, transitionsIn, conditionsAt, actionsAt, transitionsAt, commonOf, sheetOf}
 use Rattle.sheet.specs.Encode.{tableBytes, headerBytes, encode}
 use Rattle.sheet.specs.Reading.{orElse, reading, sheetLayout}
-use Rattle.sheet.specs.Answer.{answer, headerOf, placesOf}
+use Rattle.sheet.specs.Answer.{readingPaper, answer, headerOf, placesOf}
 use Rattle.sheet.proofs.Accepted.{Accepted, accepted, bounds}
 use Rattle.sheet.proofs.Answers.{answer-refused}
 use Rattle.sheet.proofs.Tables.{length-records}
-use Rattle.translation.specs.declared.Translated.{Translated}
-use Rattle.translation.specs.declared.Translated.the-variants.{Written, Refused}
 use Rattle.translation.specs.declared.write.Frame.{Frame}
 use Rattle.translation.specs.declared.write.Spot.{Spot}
 use Rattle.translation.specs.Translate.{added, translate}
-use Rattle.translation.specs.Answer.{networkBytes, translateRefusal, translatedWith, bufferWith, translatedOf, bufferOf}
+use Rattle.translation.specs.Answer.{networkBytes, translateRefusal, written, refused, translatedWith, bufferWith, translatedOf, bufferOf}
 use Rattle.translation.specs.Walk.{Prepared, Measures, Writes, WritesTables, tablesAt, headerAt}
 use Rattle.translation.proofs.Sheets.Counting.{added-length}
 use Rattle.translation.proofs.Networks.{translate-longest}
@@ -90,31 +88,27 @@ module _ {s : List ℕ} {h : Header} {f : Frame} {from : ℕ} (p : Prepared s h 
       both .all ∙ ap (sets o 0) net ∙ sets-eq (encode false N) o 0 (omega arith) ∙ ap (λ (k : ℕ). encode false N ++ drop k o) none
 
 -- What translating answers, and the buffer.
-abbrev asTranslated : Reading → Translated
-asTranslated reading.Accepted = Written 0
-asTranslated (reading.Refused n) = Refused n
-
 module _ (s o : List ℕ) where
   module _ (a : reading sheetLayout s ≡ 0) (n : ℕ) (e : n ≡ length (networkBytes s)) where
-    pub too-short : length o < n → (Refused 19 ≡ translatedOf s o) × (o ≡ bufferOf s o)
+    pub too-short : length o < n → (refused 19 ≡ translatedOf s o) × (o ≡ bufferOf s o)
     unfolding translatedOf bufferOf translateRefusal
     too-short h =
         let t = lt-leb (length (networkBytes s)) (length o) (omega arith) in
         rw (a, t) (refl, refl)
 
-    pub long-enough : n ≤ length o → (x : List ℕ) → x ≡ networkBytes s ++ drop (length (networkBytes s)) o → (Written n ≡ translatedOf s o) × (x ≡ bufferOf s o)
+    pub long-enough : n ≤ length o → (x : List ℕ) → x ≡ networkBytes s ++ drop (length (networkBytes s)) o → (written n ≡ translatedOf s o) × (x ≡ bufferOf s o)
     unfolding translatedOf bufferOf translateRefusal
     long-enough h x f =
         let t = le-leb (length (networkBytes s)) (length o) (omega arith) in
         rw (a, t, e) (refl, f)
 
 -- Where the sheet is refused, in either form: m stands for what would be asked after reading.
-pub unread-with : (s o net : List ℕ) (m : ℕ) (r : Reading) → r ≡ answer (reading sheetLayout s) → (n : ℕ) → r ≡ reading.Refused n
-    → (Refused n ≡ translatedWith (orElse (reading sheetLayout s) m) (length net)) × (o ≡ bufferWith (orElse (reading sheetLayout s) m) net o)
+pub unread-with : (s o net : List ℕ) (m : ℕ) (r : Reading) → readingPaper r ≡ answer (reading sheetLayout s) → (n : ℕ) → r ≡ reading.Refused n
+    → (refused n ≡ translatedWith (orElse (reading sheetLayout s) m) (length net)) × (o ≡ bufferWith (orElse (reading sheetLayout s) m) net o)
 unread-with s o net m r er n h =
     let (k, f, e) = answer-refused (reading sheetLayout s) r er n h in
-    rw f (ap asTranslated e, refl)
+    rw f (ap refused e, refl)
 
-pub unread : (s o : List ℕ) (r : Reading) → r ≡ answer (reading sheetLayout s) → (n : ℕ) → r ≡ reading.Refused n → (Refused n ≡ translatedOf s o) × (o ≡ bufferOf s o)
+pub unread : (s o : List ℕ) (r : Reading) → readingPaper r ≡ answer (reading sheetLayout s) → (n : ℕ) → r ≡ reading.Refused n → (refused n ≡ translatedOf s o) × (o ≡ bufferOf s o)
 unfolding translatedOf bufferOf translateRefusal
 unread s o r er n h = unread-with s o (networkBytes s) _ r er n h

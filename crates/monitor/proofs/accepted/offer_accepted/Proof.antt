@@ -1,6 +1,7 @@
 -- `accepted::offer_accepted` meets its contract. Assumes nothing.
 use mathlib.Core.Path.{sym, _∙_}
 use borrow.Author.Needs.{needs}
+use Rattle.step.specs.Calls.{eventOf}
 use Rattle.monitor.proofs.Offers.Answering.{unsound}
 use Rattle.monitor.proofs.Offers.Packed.{tables-there}
 use Rattle.monitor.proofs.accepted.offer_accepted.Statement.{statement}
@@ -15,7 +16,7 @@ offer-sound-requires c κs = (c .before .before .before .before .before .before 
 returns-2 : tie.Need-returns-2
 returns-2 c =
     let a = c .before .before .before .before .before .before .args in
-    unsound (a .s .now) (a .state) (a .event) (a .values .now) (c .before .before .before .before .before .before .pre .0) (sym (c .before .sound .ensures) ∙ c .if1 .left)
+    unsound (a .s .now) (a .state) (eventOf (a .event) (a .values .now)) (c .before .before .before .before .before .before .pre .0) (sym (c .before .sound .ensures) ∙ c .if1 .left)
 
 pub offer-accepted-spec : {M : Type 1} → statement M
 offer-accepted-spec =
