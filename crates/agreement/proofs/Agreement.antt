@@ -20,8 +20,8 @@ use Rattle.step.specs.Lists.{distinct}
 use Rattle.step.specs.Calls.{Call}
 use Rattle.step.specs.Runs.{Offered}
 use Rattle.step.specs.Answers.{Response, answerOf, ranAnswer, unlessRefused}
-use Rattle.translation.specs.Answer.{bufferOf}
-use Rattle.translation.proofs.Cut.{written-always}
+use Rattle.translation.specs.Answer.{written, translatedOf, bufferOf}
+use Rattle.translation.proofs.Cut.{sheet-accepted, written-always}
 use Rattle.engine.specs.Runs as Runs
 use Rattle.monitor.specs.Monitor as Monitor
 use Rattle.monitor.specs.Monitor.{Armed}
@@ -114,17 +114,18 @@ module _ (S : Sheet) {n : List ℕ} (a : Accepted networkLayout n) (r : Realises
   runs-same : (es : List Event) → ranAnswer endsIn (Net.run (networkOf n) es) ≡ ranAnswer Runs.endsIn (Monitor.run S es)
   runs-same = run-same r Good main-below next-good start-sound
 
-  -- what is shown after a list
+  -- after a list
+  pub offered-agrees : (es : List Event) → offeredTo n es ≡ record { answers = defined S es .answers; state = pad (ungrouped (defined S es .state)) }
+  unfolding offeredTo defined
+  offered-agrees es = ap (λ (w : NetworkState). onNetwork w es) started ∙ follow-same es (Monitor.fresh S) start-sound
+
+  -- what is shown then
   pub shown-agrees : (es : List Event) → shownByNetwork n (offeredTo n es) ≡ shownBySheet (defined S es)
-  unfolding shownByNetwork offeredTo defined
+  unfolding shownByNetwork defined
   shown-agrees es =
       let r = onSheet (Monitor.fresh S) es in
       let good = follow-good es (Monitor.fresh S) start-sound in
-      let shown : Followed NetworkState → Shown = λ x. shownIn (x .answers) (view (networkOf n) (x .state)) in
-      ap (λ (w : NetworkState). shown (onNetwork w es)) started
-      ∙ ap shown (follow-same es (Monitor.fresh S) start-sound)
-      ∙ ap (shownIn (r .answers)) (view-back a (ungrouped (r .state)) good)
-      ∙ shown-same (r .answers) (r .state) (numbers-differ (r .state) good)
+      ap (shownByNetwork n) (offered-agrees es) ∙ ap (shownIn (r .answers)) (view-back a (ungrouped (r .state)) good) ∙ shown-same (r .answers) (r .state) (numbers-differ (r .state) good)
 
   -- and in published terms
   pub meant-agrees : Plain S → (es : List Event) → Meant S es (shownByNetwork n (offeredTo n es))
@@ -158,10 +159,15 @@ module _ (s n : List ℕ) (g : reading sheetLayout s ≡ 0) (h : reading network
       }
 
 -- The network that translating wrote is one.
+module _ (s buffer : List ℕ) (size : ℕ) (h : translatedOf s buffer ≡ written size) where
+  realised : Realises (sheetOf s) (networkOf (take size (bufferOf s buffer)))
+  realised = subst (Realises (sheetOf s)) (sym (network-translated s buffer size h)) (translate-realises (sheetOf s))
+
+  pub translation-offered : (es : List Event) → offeredTo (take size (bufferOf s buffer)) es ≡ record { answers = defined (sheetOf s) es .answers; state = pad (ungrouped (defined (sheetOf s) es .state)) }
+  translation-offered es = offered-agrees (sheetOf s) (network-accepted s buffer size h) realised es
+
+  translation-defined : AsDefined s (take size (bufferOf s buffer))
+  translation-defined = as-defined s (take size (bufferOf s buffer)) (sheet-accepted s buffer size h) (reading-accepted networkLayout _ (network-accepted s buffer size h)) realised
+
 pub demand3 : Demand3
-demand3 s buffer g =
-    record {
-      long = λ k. written-always s buffer g k;
-      defined = λ size h.
-          as-defined s (take size (bufferOf s buffer)) g (reading-accepted networkLayout _ (network-accepted s buffer size h)) (subst (Realises (sheetOf s)) (sym (network-translated s buffer size h)) (translate-realises (sheetOf s)));
-    }
+demand3 s buffer g = record { long = λ k. written-always s buffer g k; defined = λ size h. translation-defined s buffer size h }
