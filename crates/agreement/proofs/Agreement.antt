@@ -20,8 +20,9 @@ use Rattle.step.specs.Lists.{distinct}
 use Rattle.step.specs.Calls.{Call}
 use Rattle.step.specs.Runs.{Offered}
 use Rattle.step.specs.Answers.{Response, answerOf, ranAnswer, unlessRefused}
-use Rattle.translation.specs.Answer.{written, translatedOf, bufferOf}
-use Rattle.translation.proofs.Cut.{sheet-accepted, written-always}
+use Rattle.translation.specs.Answer.{networkBytes, written, translatedOf, bufferOf}
+use Rattle.translation.proofs.Cut.{sheet-accepted, written-bytes, written-always}
+use Rattle.translation.proofs.Networks.{translate-accepted, translate-decodes}
 use Rattle.engine.specs.Runs as Runs
 use Rattle.monitor.specs.Monitor as Monitor
 use Rattle.monitor.specs.Monitor.{Armed}
@@ -41,11 +42,10 @@ use Rattle.network.proofs.States.Living.{checkers-few}
 use Rattle.network.proofs.States.Views.{view-back}
 use Rattle.network.proofs.States.Soundness.{fresh-sound, offer-sound}
 use Rattle.network.proofs.States.Lasting.{offered-pad}
-use Rattle.agreement.specs.Shown.{Followed, follow, defined, offeredTo, Shown, shownIn, shownBySheet, armedRow, shownByNetwork}
+use Rattle.agreement.specs.Shown.{Followed, follow, defined, offeredTo, shownIn, shownBySheet, armedRow, shownByNetwork}
 use Rattle.agreement.specs.Meant.{Meant}
 use Rattle.agreement.specs.Demand.{AsDefined, Demand3}
 use Rattle.agreement.specs.Realises.{Realises}
-use Rattle.agreement.proofs.Translation.Written.{network-accepted, network-translated}
 use Rattle.agreement.proofs.Translation.{translate-realises}
 use Rattle.agreement.proofs.Agreement.Machines.{fresh-same, answer-same, state-same, run-same}
 use Rattle.agreement.proofs.Agreement.Row.{row-own, shown-same}
@@ -158,16 +158,29 @@ module _ (s n : List ℕ) (g : reading sheetLayout s ≡ 0) (h : reading network
         sameRun = logs-same;
       }
 
--- The network that translating wrote is one.
-module _ (s buffer : List ℕ) (size : ℕ) (h : translatedOf s buffer ≡ written size) where
-  realised : Realises (sheetOf s) (networkOf (take size (bufferOf s buffer)))
-  realised = subst (Realises (sheetOf s)) (sym (network-translated s buffer size h)) (translate-realises (sheetOf s))
+-- The network of an accepted sheet is one.
+module _ (s : List ℕ) (g : reading sheetLayout s ≡ 0) where
+  read : reading networkLayout (networkBytes s) ≡ 0
+  unfolding networkBytes
+  read = reading-accepted networkLayout _ (translate-accepted (accepted sheetLayout s g))
 
+  realised : Realises (sheetOf s) (networkOf (networkBytes s))
+  unfolding networkBytes
+  realised = subst (Realises (sheetOf s)) (sym (translate-decodes (accepted sheetLayout s g))) (translate-realises (sheetOf s))
+
+  pub network-defined : AsDefined s (networkBytes s)
+  network-defined = as-defined s (networkBytes s) g read realised
+
+  network-offered : (es : List Event) → offeredTo (networkBytes s) es ≡ record { answers = defined (sheetOf s) es .answers; state = pad (ungrouped (defined (sheetOf s) es .state)) }
+  network-offered es = offered-agrees (sheetOf s) (accepted networkLayout (networkBytes s) read) realised es
+
+-- Translating writes it.
+module _ (s buffer : List ℕ) (size : ℕ) (h : translatedOf s buffer ≡ written size) where
   pub translation-offered : (es : List Event) → offeredTo (take size (bufferOf s buffer)) es ≡ record { answers = defined (sheetOf s) es .answers; state = pad (ungrouped (defined (sheetOf s) es .state)) }
-  translation-offered es = offered-agrees (sheetOf s) (network-accepted s buffer size h) realised es
+  translation-offered es = ap (λ (n : List ℕ). offeredTo n es) (written-bytes s buffer size h) ∙ network-offered s (sheet-accepted s buffer size h) es
 
   translation-defined : AsDefined s (take size (bufferOf s buffer))
-  translation-defined = as-defined s (take size (bufferOf s buffer)) (sheet-accepted s buffer size h) (reading-accepted networkLayout _ (network-accepted s buffer size h)) realised
+  translation-defined = subst (AsDefined s) (sym (written-bytes s buffer size h)) (network-defined s (sheet-accepted s buffer size h))
 
 pub demand3 : Demand3
 demand3 s buffer g = record { long = λ k. written-always s buffer g k; defined = λ size h. translation-defined s buffer size h }

@@ -3,7 +3,6 @@ pub mod Joined
 pub mod FirstAlone
 pub mod Realised
 pub mod Admitted
-pub mod Rows
 use mathlib.Core.Path.{_≡_, refl, sym, subst}
 use mathlib.Core.Bool.{Bool, true, false}
 use mathlib.Core.List.{List}
@@ -37,7 +36,7 @@ module _ (s : List ℕ) (h : reading sheetLayout s ≡ 0) (f : every (λ t. leb 
   unfolding cardBytes card separated withConditions translate extended sheetOf
   card-decodes = decode-encode true (separated (translate (sheetOf s))) (bounds (accepted sheetLayout s h) .initial)
 
-  card-agrees : CardAgrees s (cardBytes s)
+  pub card-agrees : CardAgrees s (cardBytes s)
   card-agrees = record {
     decodes = card-decodes;
     exclusive = subst Exclusive (sym card-decodes) (card-exclusive s h);

@@ -2,3 +2,4 @@
 pub mod Translation
 pub mod Agreement
 pub mod Card
+pub mod Rows

@@ -1,7 +1,6 @@
 -- The network that translating gives realises its sheet. Assumes nothing.
 pub mod Lookup
 pub mod Taken
-pub mod Written
 use mathlib.Core.Path.{_≡_, refl, ap, _∙_}
 use Prim.Native.Nat.{ℕ}
 use Rattle.condition.specs.Meaning.{Environment}

@@ -4,3 +4,4 @@ pub mod Meant
 pub mod Demand
 pub mod Realises
 pub mod Card
+pub mod Rows

@@ -1,5 +1,6 @@
 -- The laws that the functions' proofs and the layers above cite.
 pub mod Answering
+pub mod Claims
 pub mod Ends
 pub mod Evaluating
 pub mod Naming

@@ -12,10 +12,10 @@ use borrow.Author.Tests.{le-ltb, not-true}
 use Rattle.condition.specs.declared.Lent.{Lent}
 use Rattle.condition.specs.Word.{signed, plusWord, minusWord, lessWord, equalWord, withinWord}
 use Rattle.condition.specs.Tree.{Variable, program, monitor, atEntry, Condition, always, negation, both, either, less, equal, within, Value, constant, variable, plus, minus, choose, Assignment, conditionNames, valueNames, actionNames, isMonitor, isAtEntry}
-use Rattle.condition.specs.Parse.{isLent, parsed, conditionFrom, valueFrom, runFrom, parseCondition, parseValue, parseAction}
+use Rattle.condition.specs.Parse.{isLent, unlent, targetsBelow, parsed, conditionFrom, valueFrom, runFrom, parseCondition, parseValue, parseAction}
 use Rattle.condition.specs.Meaning.{Environment, environment, lent, valueOf, holds, word, assigned, performed}
 use Rattle.condition.specs.Answer.{refused, given, sized, actionSized, judged, conditionOutcome, valueOutcome, actionOutcome, runOutcome, whether, conditionWhich, actionWhich}
-use Rattle.condition.proofs.Parsing.{unlent, targetsBelow, condition-lent, value-lent, action-lent, action-targets, condition-under, value-under, action-under-any, parse-lent, parse-under, parse-action-lent, parse-action-under}
+use Rattle.condition.proofs.Parsing.{condition-lent, value-lent, action-lent, action-targets, condition-under, value-under, action-under-any, parse-lent, parse-under, parse-action-lent, parse-action-under}
 
 -- Operands of which neither names a variable of the wrong sort.
 pair-same : {X Y Z : Type 0} {a b : Bool} {x x′ : X} {y y′ : Y} (g : X → Y → Z)

@@ -11,11 +11,7 @@ use lib.ListN.{length, length-append}
 use borrow.Author.Tests.{eqb-true, not-false}
 use Rattle.condition.specs.declared.Lent.{Lent}
 use Rattle.condition.specs.Tree.{Variable, program, monitor, atEntry, Condition, always, negation, both, either, less, equal, within, Value, constant, variable, plus, minus, choose, Assignment, variableBytes, conditionBytes, valueBytes, actionBytes, conditionNames, valueNames, actionNames}
-use Rattle.condition.specs.Parse.{isLent, Parsed, malformed, parsed, Reader, andThen, one, two, three, literal, numbered, ConditionOperator, opTrue, opNot, opAnd, opOr, opLess, opEqual, opWithin, conditionOperator, conditionWith, ValueOperator, opConstant, opProgram, opMonitor, opAtEntry, opPlus, opMinus, opChoose, valueOperator, valueWith, conditionFrom, valueFrom, exactly, parseCondition, parseValue, assignmentFrom, prefixed, thenRun, runFrom, parseAction}
-
--- A variable that is not lent.
-abbrev pub unlent : Lent → Variable → Bool
-unlent L v = not (isLent L v)
+use Rattle.condition.specs.Parse.{isLent, unlent, targetsBelow, Parsed, malformed, parsed, Reader, andThen, one, two, three, literal, numbered, ConditionOperator, opTrue, opNot, opAnd, opOr, opLess, opEqual, opWithin, conditionOperator, conditionWith, ValueOperator, opConstant, opProgram, opMonitor, opAtEntry, opPlus, opMinus, opChoose, valueOperator, valueWith, conditionFrom, valueFrom, exactly, parseCondition, parseValue, assignmentFrom, prefixed, thenRun, runFrom, parseAction}
 
 -- What was found, if anything, satisfies P.
 record Found {A : Type 0} (P : A → List ℕ → Type 0) (x : Parsed A) : Type 0 where
@@ -299,11 +295,6 @@ condition-fuel L = fuel (λ k. lawful k .0) L (condition-found L)
 
 pub value-fuel : (L : Lent) (s : List ℕ) (k j : ℕ) → length s ≤ k → length s ≤ j → valueFrom k L s ≡ valueFrom j L s
 value-fuel L = fuel (λ k. lawful k .1) L (value-found L)
-
--- Whether the targets of a run are below m.
-unfoldable pub targetsBelow : ℕ → List Assignment → Bool
-targetsBelow m [] = true
-targetsBelow m (a ∷ more) = ltb (a .target) m && targetsBelow m more
 
 -- The image of an assignment names its target too, and that of a run what its assignments name.
 abbrev ofAssignment : Assignment → Image

@@ -5,4 +5,5 @@ pub mod Parse
 pub mod Meaning
 pub mod Answer
 pub mod Rows
+pub mod Claims
 pub mod Walk

@@ -1,5 +1,5 @@
 -- Parsing operator-first bytes (document 01, "Conditions and values"), for given numbers of lent values.
-use mathlib.Core.Bool.{Bool, cond}
+use mathlib.Core.Bool.{Bool, true, not, cond, _&&_}
 use mathlib.Core.Option.{Option, none, some}
 use mathlib.Core.List.{List, [], _∷_}
 use Prim.Native.Nat.{ℕ, zero, suc}
@@ -13,6 +13,14 @@ unfoldable pub isLent : Lent → Variable → Bool
 isLent L (program i) = ltb i (L .programs)
 isLent L (monitor i) = ltb i (L .monitors)
 isLent L (atEntry i) = ltb i (L .kept)
+
+abbrev pub unlent : Lent → Variable → Bool
+unlent L v = not (isLent L v)
+
+-- whether the variables that an action assigns are below m
+unfoldable pub targetsBelow : ℕ → List Assignment → Bool
+targetsBelow m [] = true
+targetsBelow m (a ∷ more) = ltb (a .target) m && targetsBelow m more
 
 -- What stands at the front of some bytes, with the bytes behind it.
 pub data Parsed (A : Type 0) : Type 0 where

@@ -3,3 +3,5 @@ pub mod Texts
 pub mod Decimals
 pub mod Saying
 pub mod Printing
+pub mod Claims
+pub mod Rows

@@ -7,4 +7,5 @@ pub mod Found
 pub mod Published
 pub mod Acceptance
 pub mod Exclusive
+pub mod Sentences
 pub mod Rows

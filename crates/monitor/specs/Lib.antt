@@ -5,5 +5,7 @@ pub mod Sound
 pub mod Padded
 pub mod Answers
 pub mod Demand
+pub mod Claims
+pub mod Rows
 pub mod Walk
 pub mod Packed

@@ -5,4 +5,5 @@ pub mod Padded
 pub mod Grouped
 pub mod Packed
 pub mod Answers
+pub mod Claims
 pub mod Walk

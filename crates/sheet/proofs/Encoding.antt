@@ -216,6 +216,10 @@ module _ (w : Bool) (N : Network) where
         rw (encode-wide w N, conditions-stand w N fits (undoes-length w) .values, actions-stand w N fits (undoes-length false) .values, transitions-stand w N fits undoes-pair-count .values, every-map (between 0 4) (λ t. length (t .pairs)) (N .transitions), encode-end w N fits)
         (and-both (every-map (between 1 (mostBytes w)) (λ t. length t) (N .common .conditions) ∙ x) (and-both (every-map (between 0 (mostBytes false)) (λ t. length t) (N .common .actions) ∙ y) (and-both m (eq-eqb (length (encode w N)) (length (encode w N)) refl))))
 
+  pub admitted-decode : admitted w N ≡ true → networkOf (encode w N) ≡ N
+  unfolding admitted
+  admitted-decode h = let (c, rest) = simp and-iff at h in decode-encode w N (encode-fits c)
+
   pub accepted-encode : admitted w N ≡ true → Accepted networkLayout (encode w N)
   unfolding admitted networkOf encode
   accepted-encode h =

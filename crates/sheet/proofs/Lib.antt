@@ -8,3 +8,4 @@ pub mod Placed
 pub mod Answers
 pub mod Limits
 pub mod Rows
+pub mod Claims

@@ -7,4 +7,6 @@ pub mod Reading
 pub mod Log
 pub mod Encode
 pub mod Answer
+pub mod Claims
+pub mod Rows
 pub mod Walk

@@ -1,6 +1,7 @@
 -- The laws that the functions' proofs and the engines cite.
 pub mod Lists
 pub mod Causes
+pub mod Claims
 pub mod Searching
 pub mod Refusing
 pub mod Filling

@@ -2,18 +2,20 @@
 use mathlib.Core.Path.{_≡_, refl, sym}
 use mathlib.Core.Logic.{_↔_}
 use mathlib.Core.Bool.{Bool, true, false, not, cond, _&&_, false≢true}
-use mathlib.Core.List.{List}
+use mathlib.Core.List.{List, [], _∷_}
 use Prim.Native.Nat.{ℕ, _≤_, _<_}
-use borrow.Author.Tests.{leb-false, eqb-false, eq-eqb, not-false}
+use native.Mathlib.Omega.{arith}
+use borrow.Author.Tests.{leb-false, eqb-false, eq-eqb, not-false, not-true}
 use lib.Dec.{leb, ltb, eqb}
 use lib.ListN.{length}
 use Rattle.sheet.specs.Parts.{Common}
+use Rattle.sheet.specs.Table.{every}
 use Rattle.sheet.specs.Log.{Event}
 use Rattle.sheet.proofs.Tables.{and-parts}
 use Rattle.sheet.proofs.Tests.{and-iff, leb-iff, eqb-iff}
 use Rattle.step.specs.declared.Call.{Call}
 use Rattle.step.specs.Calls as Calls
-use Rattle.step.specs.Calls.{isEntry, isExit, openNumber, openFor, mostCalls, lastPosition, refusals, lowest}
+use Rattle.step.specs.Calls.{isEntry, isExit, openNumber, openFor, mostCalls, lastPosition, Refusal, refusals, lowest}
 use Rattle.step.proofs.Keeping.{any-weaker}
 
 -- the lowest of refusals 10 to 15 (Calls.refusals), by whether the event's number is open, sixteen calls are, and the number is open for its unit
@@ -28,6 +30,20 @@ pub refusal-asked :
     again ≡ openNumber (e .number) calls → full ≡ leb mostCalls (length calls) → known ≡ openFor e calls → refusalBy (C .units) (C .programs) judged position again full known e ≡ lowest (refusals C judged position calls e)
 unfolding lowest refusals
 refusal-asked C judged position calls e again full known ea ef ek = rw (ea, ef, ek)
+
+-- None of them is 9.
+never : (l : List Refusal) → every (λ r. not (eqb (r .number) 9)) l ≡ true → lowest l ≡ 9 → ⊥
+unfolding lowest every
+never [] h e = omega arith
+never (r ∷ l) h e = let (a, b) = and-parts (not (eqb (r .number) 9)) (every (λ r. not (eqb (r .number) 9)) l) h in go (r .applies) (eqb-false (r .number) 9 (not-true _ a)) (never l b) e
+  where
+    go : (b : Bool) → (r .number ≡ 9 → ⊥) → (lowest l ≡ 9 → ⊥) → cond b (r .number) (lowest l) ≡ 9 → ⊥
+    go true x y e = x e
+    go false x y e = y e
+
+pub lowest-never : (C : Common) (judged : Bool) (position : ℕ) (calls : List Calls.Call) (e : Event) → lowest (refusals C judged position calls e) ≡ 9 → ⊥
+unfolding refusals every
+lowest-never C judged position calls e = never (refusals C judged position calls e) refl
 
 -- An event that is refused for no reason, with or without a verdict, at a position, with some calls open.
 pub record Free (C : Common) (judged : Bool) (position : ℕ) (calls : List Calls.Call) (e : Event) : Type 0 where

@@ -8,3 +8,4 @@ pub mod Walk
 pub mod Padding
 pub mod Runs
 pub mod Answers
+pub mod Claims

@@ -1,5 +1,6 @@
 -- What translating a sheet gives.
 pub mod Rows
+pub mod Claims
 pub mod Writing
 pub mod Sheets
 pub mod Networks

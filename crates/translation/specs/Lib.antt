@@ -2,5 +2,7 @@
 pub mod Translate
 pub mod Card
 pub mod Answer
+pub mod Claims
+pub mod Rows
 pub mod Walk
 pub mod CardWalk

@@ -7,10 +7,10 @@ use mathlib.Core.List.{List, [], _∷_, _++_}
 use Prim.Native.Nat.{ℕ}
 use Rattle.condition.specs.declared.Lent.{Lent}
 use Rattle.condition.specs.Tree.{Variable, Condition, negation, both, conditionBytes, conditionNames}
-use Rattle.condition.specs.Parse.{parseCondition}
+use Rattle.condition.specs.Parse.{unlent, parseCondition}
 use Rattle.condition.specs.Meaning.{Environment, holds}
 use Rattle.condition.specs.Answer.{sized, conditionWhich}
-use Rattle.condition.proofs.Parsing.{unlent, condition-whole, parse-lent, parse-bytes}
+use Rattle.condition.proofs.Parsing.{condition-whole, parse-lent, parse-bytes}
 use Rattle.sheet.specs.declared.Transition.{Transition}
 use Rattle.sheet.specs.Parts.{Common}
 use Rattle.sheet.specs.Reading.{lentIn, conditionIn, formed}

@@ -55,10 +55,10 @@ openings-calls S k (e ∷ w) = go (staysOpen e w) (openings-calls S (stepped S k
 
 -- With one event more an entry is open, and an exit leaves the calls of its number.
 module _ (S : Sheet) (e : Event) where
-  abbrev stays : Armed → Bool
+  abbrev pub stays : Armed → Bool
   stays a = not (isExit e && eqb (a .call .number) (e .number))
 
-  abbrev last : Configuration → Bool → List Armed
+  abbrev pub last : Configuration → Bool → List Armed
   last k b = cond b (opening S k e ∷ []) []
 
   alone : (k : Configuration) (b : Bool) → cond (b && true) (opening S k e ∷ []) [] ≡ last k b
@@ -72,7 +72,7 @@ module _ (S : Sheet) (e : Event) where
   step x true false false k o t h s = rw (← s) (ap (λ l. x ∷ (l ++ t)) (sym h))
   step x false a c k o t h s = ap (λ l. l ++ t) (sym h)
 
-  openings-more : (w : List Event) (k : Configuration) → openings S k (w ++ e ∷ []) ≡ keep stays (openings S k w) ++ last (shift S k w) (isEntry e)
+  pub openings-more : (w : List Event) (k : Configuration) → openings S k (w ++ e ∷ []) ≡ keep stays (openings S k w) ++ last (shift S k w) (isEntry e)
   unfolding openings keep any shift
   openings-more [] k = alone k (isEntry e)
   openings-more (x ∷ w) k =

@@ -10,18 +10,22 @@ use Rattle.sheet.specs.Parts.{Sheet}
 use Rattle.sheet.specs.Decode.{sheetOf}
 use Rattle.sheet.specs.Reading.{sheetLayout}
 use Rattle.sheet.specs.Log.{Event}
-use Rattle.sheet.proofs.Accepted.{Accepted, reading-accepted}
+use Rattle.sheet.proofs.Accepted.{Accepted, accepted, reading-accepted}
 use Rattle.sheet.proofs.Tables.{and-parts, and-both}
 use Rattle.sheet.proofs.Tests.{and-iff, eqb-iff}
 use Rattle.step.specs.declared.Call.{Call}
 use Rattle.step.specs.Runs.{Offered, offered}
 use Rattle.step.specs.Padding.{zeroCall, padCall, clear, padded, isZeroCall}
+use Rattle.step.specs.Verdicts.{isJudged}
+use Rattle.step.proofs.Runs.{offered-answer}
+use Rattle.step.proofs.Refusing.{lowest-never}
 use Rattle.step.proofs.Rooms.{length-fit, every-fit, every-behind, padded-fit, zero-padded}
 use Rattle.monitor.specs.declared.WatchState.{WatchState}
 use Rattle.monitor.specs.Monitor.{Armed, State, fresh, refusal, offer}
 use Rattle.monitor.specs.Sound.{callSound, sound}
 use Rattle.monitor.specs.Padded.{zeroArms, padArms, isZeroArms, tidyArms, pad, view, tidy, soundState, freshOf}
 use Rattle.monitor.specs.Answers.{offerOf}
+use Rattle.monitor.specs.Claims.{Reached, begun, more, Soundness}
 use Rattle.monitor.proofs.States.Views.{pad-view, view-back}
 use Rattle.monitor.proofs.States.Soundness.{fresh-sound, offer-sound}
 
@@ -70,11 +74,6 @@ module _ {s : List ℕ} (a : Accepted sheetLayout s) (σ : State) (h : sound (sh
       go zero τ = refl
       go (suc n) τ = refl
 
--- A state that offering events leads to from the fresh one, taken or refused.
-pub data Reached (s : List ℕ) : WatchState → Type 0 where
-  begun : Reached s (freshOf s)
-  more : {w : WatchState} → Reached s w → (e : Event) → Reached s (offerOf s w e .state)
-
 record Held (s : List ℕ) (w : WatchState) : Type 0 where
   state : State
   padded : w ≡ pad state
@@ -82,7 +81,7 @@ record Held (s : List ℕ) (w : WatchState) : Type 0 where
 
 module _ {s : List ℕ} (a : Accepted sheetLayout s) where
   -- An offered event leaves a sound state sound.
-  pub offer-keeps : (w : WatchState) → soundState (sheetOf s) w ≡ true → (e : Event) → soundState (sheetOf s) (offerOf s w e .state) ≡ true
+  offer-keeps : (w : WatchState) → soundState (sheetOf s) w ≡ true → (e : Event) → soundState (sheetOf s) (offerOf s w e .state) ≡ true
   unfolding soundState
   offer-keeps w h e =
       let (o, (t, g)) = simp and-iff at h in
@@ -98,6 +97,21 @@ module _ {s : List ℕ} (a : Accepted sheetLayout s) where
       let next = ap (λ (w : WatchState). offerOf s w e .state) (g .padded) ∙ ap (λ (o : Offered WatchState). o .state) (offered-pad a (g .state) (g .good) e) in
       record { state = offer (sheetOf s) (g .state) e .state; padded = next; good = offer-sound a (g .state) e (g .good) }
 
-  -- From fresh every state is sound: no event meets 9.
-  pub reached-sound : {w : WatchState} → Reached s w → soundState (sheetOf s) w ≡ true
+  reached-sound : {w : WatchState} → Reached s w → soundState (sheetOf s) w ≡ true
   reached-sound r = let g = held r in ap (soundState (sheetOf s)) (g .padded) ∙ sound-pad a (g .state) (g .good)
+
+  -- so no event meets 9
+  never-nine : {w : WatchState} → Reached s w → (e : Event) → offerOf s w e .answer ≡ 9 → ⊥
+  unfolding refusal offerOf
+  never-nine {w} r e h =
+      let S = sheetOf s in
+      let σ = view S w in
+      let n = refusal S σ e in
+      let same : offered n w (pad (offer S σ e .state)) .answer ≡ 9 = rw (reading-accepted sheetLayout s a, reached-sound r) at h in
+      lowest-never (S .common) (isJudged (σ .verdict)) (σ .position) (map (λ (b : Armed). b .call) (σ .calls)) e (sym (offered-answer n w (pad (offer S σ e .state))) ∙ same)
+
+-- In its arrays a sound state stays sound, and from fresh every state is.
+pub soundness : Soundness
+soundness s h =
+    let a = accepted sheetLayout s h in
+    record { kept = λ w g e. offer-keeps a w g e; reached = λ w r. reached-sound a r; neverNine = λ w r e. never-nine a r e }

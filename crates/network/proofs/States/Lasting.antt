@@ -10,19 +10,23 @@ use Rattle.sheet.specs.Table.{every, fit}
 use Rattle.sheet.specs.Decode.{networkOf}
 use Rattle.sheet.specs.Reading.{networkLayout}
 use Rattle.sheet.specs.Log.{Event}
-use Rattle.sheet.proofs.Accepted.{Accepted, reading-accepted}
+use Rattle.sheet.proofs.Accepted.{Accepted, accepted, reading-accepted}
 use Rattle.sheet.proofs.Tables.{and-parts, and-both}
 use Rattle.sheet.proofs.Tests.{and-iff, eqb-iff}
 use Rattle.step.specs.declared.Call.{Call}
 use Rattle.step.specs.Calls as Calls
 use Rattle.step.specs.Runs.{Offered, offered}
 use Rattle.step.specs.Padding.{zeroCall, padCall, clear, padded, isZeroCall}
+use Rattle.step.specs.Verdicts.{isJudged}
+use Rattle.step.proofs.Runs.{offered-answer}
+use Rattle.step.proofs.Refusing.{lowest-never}
 use Rattle.step.proofs.Rooms.{length-fit, every-fit, every-behind, padded-fit, zero-padded}
 use Rattle.network.specs.declared.NetworkState.{NetworkState}
 use Rattle.network.specs.Network.{State, fresh, refusal, offer}
 use Rattle.network.specs.Sound.{callSound, sound}
 use Rattle.network.specs.Padded.{zeroChecker, isZeroChecker, pad, view, tidy, soundState, freshOf}
 use Rattle.network.specs.Answers.{offerOf}
+use Rattle.network.specs.Claims.{Reached, begun, more, Soundness}
 use Rattle.network.proofs.States.Living.{checkers-few}
 use Rattle.network.proofs.States.Views.{pad-view, view-back}
 use Rattle.network.proofs.States.Soundness.{fresh-sound, offer-sound}
@@ -67,11 +71,6 @@ module _ {s : List ℕ} (a : Accepted networkLayout s) (σ : State) (h : sound (
       go zero τ = refl
       go (suc n) τ = refl
 
--- A state that offering events leads to from the fresh one, taken or refused.
-pub data Reached (s : List ℕ) : NetworkState → Type 0 where
-  begun : Reached s (freshOf s)
-  more : {w : NetworkState} → Reached s w → (e : Event) → Reached s (offerOf s w e .state)
-
 record Held (s : List ℕ) (w : NetworkState) : Type 0 where
   state : State
   padded : w ≡ pad state
@@ -79,7 +78,7 @@ record Held (s : List ℕ) (w : NetworkState) : Type 0 where
 
 module _ {s : List ℕ} (a : Accepted networkLayout s) where
   -- An offered event leaves a sound state sound.
-  pub offer-keeps : (w : NetworkState) → soundState (networkOf s) w ≡ true → (e : Event) → soundState (networkOf s) (offerOf s w e .state) ≡ true
+  offer-keeps : (w : NetworkState) → soundState (networkOf s) w ≡ true → (e : Event) → soundState (networkOf s) (offerOf s w e .state) ≡ true
   unfolding soundState
   offer-keeps w h e =
       let (o, (l, (t, g))) = simp and-iff at h in
@@ -95,6 +94,21 @@ module _ {s : List ℕ} (a : Accepted networkLayout s) where
       let next = ap (λ (w : NetworkState). offerOf s w e .state) (g .padded) ∙ ap (λ (o : Offered NetworkState). o .state) (offered-pad a (g .state) (g .good) e) in
       record { state = offer (networkOf s) (g .state) e .state; padded = next; good = offer-sound a (g .state) e (g .good) }
 
-  -- It is sound: from fresh no event meets 9.
-  pub reached-sound : {w : NetworkState} → Reached s w → soundState (networkOf s) w ≡ true
+  reached-sound : {w : NetworkState} → Reached s w → soundState (networkOf s) w ≡ true
   reached-sound r = let g = held r in ap (soundState (networkOf s)) (g .padded) ∙ sound-pad a (g .state) (g .good)
+
+  -- so no event meets 9
+  never-nine : {w : NetworkState} → Reached s w → (e : Event) → offerOf s w e .answer ≡ 9 → ⊥
+  unfolding refusal offerOf
+  never-nine {w} r e h =
+      let N = networkOf s in
+      let σ = view N w in
+      let n = refusal N σ e in
+      let same : offered n w (pad (offer N σ e .state)) .answer ≡ 9 = rw (reading-accepted networkLayout s a, reached-sound r) at h in
+      lowest-never (N .common) (isJudged (σ .verdict)) (σ .position) (σ .calls) e (sym (offered-answer n w (pad (offer N σ e .state))) ∙ same)
+
+-- In its arrays a sound state stays sound, and from fresh every state is.
+pub soundness : Soundness
+soundness s h =
+    let a = accepted networkLayout s h in
+    record { kept = λ w g e. offer-keeps a w g e; reached = λ w r. reached-sound a r; neverNine = λ w r e. never-nine a r e }
