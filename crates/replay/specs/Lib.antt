@@ -1,0 +1,3 @@
+-- Offering the records of a log to a sheet's network.
+pub mod Replay
+pub mod Walk
