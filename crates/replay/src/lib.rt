@@ -31,7 +31,8 @@ pub struct Replayed {
 
 // Translates a sheet and offers the records of a log to its network, from the fresh state on, each to
 // the state that came back before. Of each record a byte goes into `answers`, as far as there is room: 0
-// where it was taken, or the number of its refusal.
+// where it was taken, or the number of its refusal. Where the sheet or the log is refused, `answers`
+// stays as it was, and the state is all-zero.
 pub fn replay(sheet: &[u8], log: &[u8], answers: &mut [u8]) -> Replayed
     ensures { λ r. ⌜ replayPaper (r .answer) ≡ replayOf (now (sheet .entry)) (now (log .entry)) ⌝ }
     ensures { λ r. ⌜ r .state ≡ replayedState (now (sheet .entry)) (now (log .entry)) ⌝ }
