@@ -11,16 +11,21 @@ use Rattle.condition.specs.Meaning.{holds, word, valueOf, assigned, performed}
 use Rattle.condition.specs.Answer.{conditionWhich, actionWhich}
 use Rattle.sheet.specs.Table.{records, extent, every}
 use Rattle.sheet.specs.Decode.{conditionsAt, actionsAt, transitionsAt, lastAt, commonOf, sheetOf, networkOf}
-use Rattle.sheet.specs.Reading.{reading, whole, counted, tabled, formed, roled, ranged, transitionRanged, tripleRanged, together, sheetLayout}
-use Rattle.sheet.specs.Rows.{sheetB}
+use Rattle.sheet.specs.Reading.{reading, whole, counted, tabled, formed, roled, ranged, transitionRanged, tripleRanged, together, pairRanged, templateRanged, sheetLayout}
+use Rattle.sheet.specs.Log.{logReading, recordsIn, eventsOf}
+use Rattle.sheet.specs.Rows.{sheetB, networkA}
 use Rattle.step.specs.Lists.{any, first, keep, numbers, least}
 use Rattle.step.specs.Meets.{meets, acted}
 use Rattle.step.specs.Moves.{enabled, moved}
 use Rattle.step.specs.Calls.{refusals, lowest}
+use Rattle.step.specs.Runs as Runs
 use Rattle.translation.specs.Translate.{pairsFrom, joined, added, extended, translate}
 use Rattle.translation.specs.Card.{joinedText, joinedFrom, joinedConditions}
 use Rattle.translation.specs.Answer.{cardBytes}
 use Rattle.monitor.specs.Monitor.{fresh, offer, refusal, entered, exited, arms, armedBy, fails}
+use Rattle.monitor.specs.Rows as OnSheet
+use Rattle.network.specs.Network as Network
+use Rattle.network.specs.Answers.{runOf}
 use Rattle.agreement.specs.Shown.{follow, defined, armedRow, shownBySheet}
 use Rattle.agreement.specs.Demand.{AsDefined}
 use Rattle.agreement.specs.Rows.{Row, rows, Rows}
@@ -34,6 +39,10 @@ defined-rows = refl
 sheet-read : reading sheetLayout sheetB ≡ 0
 unfolding reading whole counted tabled formed roled ranged transitionRanged tripleRanged together records extent every conditionsAt actionsAt transitionsAt lastAt commonOf bigEndian conditionNames valueNames actionNames isMonitor isAtEntry isLent literal numbered conditionOperator valueOperator conditionFrom valueFrom parseCondition assignmentFrom runFrom parseAction conditionWhich actionWhich
 sheet-read = refl
+
+network-runs : map (λ (r : OnSheet.Row). runOf networkA (OnSheet.log (r .records))) OnSheet.rows ≡ map (λ (r : OnSheet.Row). r .expected) OnSheet.rows
+unfolding runOf logReading reading whole counted tabled formed roled ranged transitionRanged pairRanged templateRanged every conditionNames valueNames actionNames isMonitor isAtEntry assignmentFrom runFrom conditionWhich actionWhich Network.run Runs.runFrom Network.fresh Network.offer Network.refusal refusals lowest any first keep least Network.entered Network.exited Network.created Network.fails moved enabled meets acted eventsOf recordsIn networkOf commonOf conditionsAt actionsAt transitionsAt lastAt records extent bigEndian parseCondition parseAction conditionFrom valueFrom conditionOperator valueOperator literal numbered isLent performed holds word equalWord valueOf
+network-runs = refl
 
 short : every (λ t. leb (length t) 1024) (joinedConditions (translate (sheetOf sheetB))) ≡ true
 unfolding every joinedFrom joinedText pairsFrom joined added extended translate sheetOf commonOf conditionsAt actionsAt transitionsAt lastAt records extent bigEndian
@@ -49,5 +58,6 @@ rows-hold =
       defined = defined-rows;
       network = (λ i. map (λ (r : Row). network-defined sheetB sheet-read .agrees (r .events) .shown i) rows) ∙ defined-rows;
       card = (λ i. map (λ (r : Row). card-defined .agrees (r .events) .shown i) rows) ∙ defined-rows;
+      runs = network-runs;
       exclusive = (refl, refl, refl, refl, refl, refl);
     }
