@@ -37,6 +37,10 @@ longestAction = 64
 abbrev pub actionSized : List ℕ → Bool
 actionSized s = leb (length s) longestAction
 
+-- "monitor variables V, 0-4"
+abbrev pub mostVariables : ℕ
+mostVariables = 4
+
 -- "5 if the bytes aren't exactly one by the grammar or name a value that isn't lent. Otherwise it gives the value"
 abbrev pub judged : {A B : Type 0} → Option A → (A → B) → Evaluation B
 judged none f = refused 5

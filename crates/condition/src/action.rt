@@ -6,9 +6,10 @@ ghost use Prim.Native.Nat.{_+_, _/_, _%_, _^_, _≤_, _<_};
 ghost use lib.ListN.{length, take};
 ghost use Rattle.condition.specs.Parse.{parseAction};
 ghost use Rattle.condition.specs.Meaning.{environment};
-ghost use Rattle.condition.specs.Answer.{runOutcome, done, performedOn, whether};
+ghost use Rattle.condition.specs.Answer.{mostVariables, runOutcome, done, performedOn, whether};
 ghost use Rattle.condition.specs.Walk.{EvaluatesValue, SkipsAssignment, Assigns, ran};
 use crate::Lent;
+use crate::VARIABLES;
 use crate::evaluate;
 use crate::front;
 use crate::skip;
@@ -18,7 +19,7 @@ use crate::word::wide;
 pub(crate) fn run<'a>(
     s: &[u8],
     program: &'a [u32],
-    variables: &mut [u32; 4],
+    variables: &mut [u32; VARIABLES],
     count: usize,
     kept: &'a [u32],
 ) -> bool
@@ -43,7 +44,7 @@ fn assign<'a>(
     s: &[u8],
     at: usize,
     program: &'a [u32],
-    variables: &mut [u32; 4],
+    variables: &mut [u32; VARIABLES],
     count: usize,
     kept: &'a [u32],
 ) -> usize
@@ -55,7 +56,7 @@ fn assign<'a>(
     if target < count {} else {
         return s.len() + 1;
     }
-    if target < 4 {} else {
+    if target < VARIABLES {} else {
         return s.len() + 1;
     }
     variables[target] = (r % 4294967296) as u32;
@@ -67,12 +68,12 @@ fn value<'a>(
     s: &[u8],
     at: usize,
     program: &'a [u32],
-    variables: &'a [u32; 4],
+    variables: &'a [u32; VARIABLES],
     count: usize,
     kept: &'a [u32],
 ) -> usize
     requires { ⌜ (length (now s) ≤ 65535) × (at ≤ length (now s)) ⌝ }
-    ensures { λ r. ⌜ (length (now (variables .entry)) ≡ 4) × EvaluatesValue (environment (now (program .entry)) (take count (now (variables .entry))) (now (kept .entry))) (now (s .entry)) at (r / 2 ^ 32) (r % 2 ^ 32) ⌝ }
+    ensures { λ r. ⌜ (length (now (variables .entry)) ≡ mostVariables) × EvaluatesValue (environment (now (program .entry)) (take count (now (variables .entry))) (now (kept .entry))) (now (s .entry)) at (r / 2 ^ 32) (r % 2 ^ 32) ⌝ }
 {
     let monitor = front(&variables[..], count);
     let e = [program, monitor, kept];

@@ -19,6 +19,9 @@ pub const LONGEST: usize = 1024;
 
 pub const LONGEST_ACTION: usize = 64;
 
+// The most monitor variables.
+pub const VARIABLES: usize = 4;
+
 // How many values are lent of each kind: present program values, monitor variables, program values
 // kept at entry.
 pub struct Lent {
@@ -44,7 +47,7 @@ pub enum ActionAnswer {
 
 pub struct Performed {
     pub answer: ActionAnswer,
-    pub variables: [u32; 4],
+    pub variables: [u32; VARIABLES],
 }
 
 // The first `count` values, or all where there are fewer.
@@ -124,7 +127,7 @@ pub fn evaluate_value<'a>(
 pub fn perform<'a>(
     s: &[u8],
     program: &'a [u32],
-    variables: [u32; 4],
+    variables: [u32; VARIABLES],
     count: usize,
     kept: &'a [u32],
 ) -> Performed
@@ -152,7 +155,13 @@ pub fn perform<'a>(
 
 // Carries out, in place, the action whose length byte stands at a place, on the first `count` of four
 // monitor variables. What is refused changes none.
-pub fn perform_at(s: &[u8], at: usize, program: &[u32], variables: &mut [u32; 4], count: usize)
+pub fn perform_at(
+    s: &[u8],
+    at: usize,
+    program: &[u32],
+    variables: &mut [u32; VARIABLES],
+    count: usize,
+)
     ensures { λ _. ⌜ now (variables .exit) ≡ performedOn count (now (variables .entry)) (actionOutcome (textFrom (now (s .entry)) at) (environment (now (program .entry)) (take count (now (variables .entry))) [])) ⌝ }
 {
     let text = text_at(s, at);

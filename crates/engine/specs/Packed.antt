@@ -7,6 +7,7 @@ use lib.ListN.{length, getD, take, drop, replicate}
 use lib.Seq.{sets}
 use Rattle.sheet.specs.Table.{fit}
 use Rattle.step.specs.declared.Call.{Call}
+use Rattle.step.specs.Calls.{mostCalls, mostValues, mostArmed}
 use Rattle.step.specs.Padding.{zeroCall}
 use Rattle.engine.specs.declared.pack.Arms.{Arms}
 
@@ -15,17 +16,17 @@ abbrev pub wordsOf : Call → Arms → List ℕ
 wordsOf c a = c .number ∷ c .unit ∷ a .count ∷ (a .numbers ++ 0 ∷ c .kept)
 
 unfoldable pub putAt : List ℕ → ℕ → Call → Arms → List ℕ
-putAt row i c a = cond (ltb i 16) (sets row (16 * i) (wordsOf c a)) row
+putAt row i c a = cond (ltb i mostCalls) (sets row (16 * i) (wordsOf c a)) row
 
 -- a call by its words, with as many values as are wanted, and what is armed for it
 abbrev pub callIn : ℕ → List ℕ → Call
-callIn programs w = record { number = getD w 0 0 % 65536; unit = getD w 1 0 % 256; kept = fit 8 0 (take programs (take 8 (drop 8 w))) }
+callIn programs w = record { number = getD w 0 0 % 65536; unit = getD w 1 0 % 256; kept = fit mostValues 0 (take programs (take mostValues (drop 8 w))) }
 
 abbrev pub armsIn : List ℕ → Arms
-armsIn w = let l = take (getD w 2 0) (take 4 (drop 3 w)) in record { count = length l; numbers = fit 4 0 (map (λ n. n % 256) l) }
+armsIn w = let l = take (getD w 2 0) (take mostArmed (drop 3 w)) in record { count = length l; numbers = fit mostArmed 0 (map (λ n. n % 256) l) }
 
 unfoldable pub callAt : List ℕ → ℕ → ℕ → Call
-callAt row i programs = cond (ltb i 16) (callIn programs (drop (16 * i) row)) zeroCall
+callAt row i programs = cond (ltb i mostCalls) (callIn programs (drop (16 * i) row)) zeroCall
 
 unfoldable pub armsAt : List ℕ → ℕ → Arms
-armsAt row i = cond (ltb i 16) (armsIn (drop (16 * i) row)) (record { count = 0; numbers = replicate 4 0 })
+armsAt row i = cond (ltb i mostCalls) (armsIn (drop (16 * i) row)) (record { count = 0; numbers = replicate mostArmed 0 })

@@ -2,6 +2,7 @@
 use mathlib.Core.List.{List}
 use Prim.Native.Nat.{ℕ, _+_}
 use lib.ListN.{take, replicate}
+use Rattle.condition.specs.Answer.{mostVariables}
 use Rattle.sheet.specs.Bytes.{byte, half}
 use Rattle.sheet.specs.Table.{table, fit}
 use Rattle.sheet.specs.Decode.{wordForm, sheetOf, networkOf}
@@ -21,7 +22,7 @@ offerBy s p σ e = offerIn s p σ (givenOf e) (eightOf e)
 
 -- the words before the first event: the start state, the initial values, no calls
 unfoldable pub startIn : List ℕ → Words
-startIn s = words (record { main = byte s 7; opened = 0; position = 0; outcome = Open }) (replicate 256 0) (take 4 (fit 8 0 (table wordForm (byte s 6) s 14)))
+startIn s = words (record { main = byte s 7; opened = 0; position = 0; outcome = Open }) (replicate 256 0) (take mostVariables (fit 8 0 (table wordForm (byte s 6) s 14)))
 
 unfoldable pub followIn : List ℕ → List ℕ → List Event → Ran Words
 followIn s p es = runFrom (offerBy s p) (λ σ. verdictIn (σ .run .outcome)) 1 (startIn s) es

@@ -12,7 +12,7 @@ use Rattle.sheet.specs.Log.{Event}
 use Rattle.step.specs.Lists.{distinct}
 use Rattle.step.specs.Meets.{meets}
 use Rattle.step.specs.Moves.{Configuration, seen, moved}
-use Rattle.step.specs.Calls.{Call}
+use Rattle.step.specs.Calls.{Call, mostCalls, mostValues, mostArmed}
 use Rattle.step.specs.Verdicts.{verdictIn}
 use Rattle.engine.specs.Machine.{Machine, Armed, State}
 use Rattle.engine.specs.Plan.{unitsIn, programsIn, monitorsIn, badIn, cellOf, firstOf, candidateOf, postOf}
@@ -20,10 +20,10 @@ use Rattle.engine.specs.Walk.{holdsBy, foundIn, armedIn, entries, mainAf
 
 -- a call by its words
 abbrev pub callOf : ℕ → List ℕ → Call
-callOf programs w = record { number = getD w 0 0; unit = getD w 1 0; kept = take programs (take 8 (drop 8 w)) }
+callOf programs w = record { number = getD w 0 0; unit = getD w 1 0; kept = take programs (take mostValues (drop 8 w)) }
 
 unfoldable pub armedOf : ℕ → List ℕ → Armed
-armedOf programs w = record { call = callOf programs w; armed = take (getD w 2 0) (take 4 (drop 3 w)) }
+armedOf programs w = record { call = callOf programs w; armed = take (getD w 2 0) (take mostArmed (drop 3 w)) }
 
 abbrev pub heldBy : Common → Words → Configuration
 heldBy C σ = record { main = σ .run .main; variables = take (C .monitors) (σ .variables) }
@@ -42,7 +42,7 @@ shownBy C σ =
 pub record Steady (C : Common) (last : ℕ) (σ : State) : Type 0 where
   pub main : σ .configuration .main < C .states
   pub variables : length (σ .configuration .variables) ≡ C .monitors
-  pub few : length (σ .calls) ≤ 16
+  pub few : length (σ .calls) ≤ mostCalls
   pub apart : distinct (map (λ (a : Armed). a .call .number) (σ .calls)) ≡ true
   pub kept : every (λ (a : Armed). eqb (length (a .call .kept)) (C .programs)) (σ .calls) ≡ true
   pub there : every (λ (a : Armed). every (λ i. ltb i last) (a .armed)) (σ .calls) ≡ true
@@ -65,14 +65,14 @@ pub record Carries (M : Machine) (last : ℕ) (s p : List ℕ) : Type 0 where
   pub programs : programsIn p ≡ M .common .programs
   pub monitors : monitorsIn p ≡ M .common .monitors
   pub bad : badIn p ≡ M .common .bad
-  pub fewPrograms : M .common .programs ≤ 8
+  pub fewPrograms : M .common .programs ≤ mostValues
   pub fewLast : last ≤ 32
   pub moves : (k : Configuration) (e : Event) → Fits (M .common) k e → mainAfter p (foundBy s p k e) (k .main) ≡ moved (M .common) (M .transitions) k e .main
   pub alters : (k : Configuration) (e : Event) → Fits (M .common) k e → (variables : List ℕ) → take (M .common .monitors) variables ≡ k .variables
       → variablesAfter s p (foundBy s p k e) (eightOf e) variables ≡ moved (M .common) (M .transitions) k e .variables ++ drop (M .common .monitors) variables
   pub stays : (k : Configuration) (e : Event) → k .main < M .common .states → moved (M .common) (M .transitions) k e .main < M .common .states
   pub arms : (k : Configuration) (e : Event) → Fits (M .common) k e → e .kind ≡ 0 → armedIn s p (candidateOf p (cellOf (k .main) (e .unit)) (foundBy s p k e)) (seen e k) ≡ M .arming k e
-  pub fewArms : (k : Configuration) (e : Event) → length (M .arming k e) ≤ 4
+  pub fewArms : (k : Configuration) (e : Event) → length (M .arming k e) ≤ mostArmed
   pub armsThere : (k : Configuration) (e : Event) → every (λ i. ltb i last) (M .arming k e) ≡ true
   pub judges : (i : ℕ) → i < last → (values variables kept : List ℕ) → length values ≡ M .common .programs → length variables ≡ M .common .monitors → length kept ≡ M .common .programs
       → holdsBy s (postOf p i) (environment values variables kept) ≡ meets (M .common) (M .postcondition i) (environment values variables kept)

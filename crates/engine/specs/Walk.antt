@@ -12,7 +12,7 @@ use Rattle.condition.specs.Answer.{performedOn, actionOutcome, holdsFrom, textF
 use Rattle.sheet.specs.Table.{fit}
 use Rattle.sheet.specs.Log.{Event}
 use Rattle.step.specs.Lists.{first, keep, placeOf}
-use Rattle.step.specs.Calls.{lastPosition}
+use Rattle.step.specs.Calls.{mostCalls, mostValues, mostArmed, lastPosition}
 use Rattle.step.specs.Verdicts.{isJudged, verdict, outcomeOf, verdictIn}
 use Rattle.step.specs.Runs.{Offered, offered}
 use Rattle.step.specs.Walk.{leastOf, numberIn}
@@ -56,10 +56,10 @@ seenIn p values variables = environment (take (programsIn p) values) (take (moni
 
 -- the lowest number armed for the call at a place whose postcondition fails, or 256
 abbrev pub armedAt : List ℕ → ℕ → List ℕ
-armedAt row at = take (getD row (at + 2) 0) (take 4 (drop (at + 3) row))
+armedAt row at = take (getD row (at + 2) 0) (take mostArmed (drop (at + 3) row))
 
 abbrev pub keptAt : List ℕ → List ℕ → ℕ → List ℕ
-keptAt p row at = take (programsIn p) (take 8 (drop (at + 8) row))
+keptAt p row at = take (programsIn p) (take mostValues (drop (at + 8) row))
 
 unfoldable pub lowIn : List ℕ → List ℕ → List ℕ → ℕ → List ℕ → List ℕ → ℕ
 lowIn s p row at values variables = leastOf 256 (keep (λ n. not (holdsBy s (postOf p n) (environment values variables (keptAt p row at)))) (armedAt row at))
@@ -85,7 +85,7 @@ words r row variables = record { run = r; row = row; variables = variables }
 
 -- the lowest refusal, or 0
 unfoldable pub entryRefusal : ℕ → ℕ → ℕ
-entryRefusal opened at = cond (ltb at (16 * opened)) 13 (cond (ltb opened 16) 0 14)
+entryRefusal opened at = cond (ltb at (16 * opened)) 13 (cond (ltb opened mostCalls) 0 14)
 
 unfoldable pub exitRefusal : List ℕ → ℕ → ℕ → ℕ → ℕ
 exitRefusal row opened at unit = cond (ltb at (16 * opened)) (cond (eqb (getD row (at + 1) 0) unit) 0 15) 15
@@ -101,7 +101,7 @@ runAfter p position main opened low = record { main = main; opened = opened; pos
 
 -- the row with a call behind the others: its number and unit, its values, and what is armed for it
 unfoldable pub rowWith : List ℕ → ℕ → ℕ → ℕ → List ℕ → List ℕ → List ℕ
-rowWith row at number unit values armed = set (sets (sets (sets row at (number ∷ unit ∷ [])) (at + 8) values) (at + 3) (take 4 armed)) (at + 2) (length armed)
+rowWith row at number unit values armed = set (sets (sets (sets row at (number ∷ unit ∷ [])) (at + 8) values) (at + 3) (take mostArmed armed)) (at + 2) (length armed)
 
 unfoldable pub enteredIn : List ℕ → List ℕ → Words → Given → List ℕ → Words
 enteredIn s p σ g values =
@@ -130,11 +130,11 @@ takenIn s p σ g at values = cond (eqb (g .kind) 0) (enteredIn s p σ g values) 
 unfoldable pub offerIn : List ℕ → List ℕ → Words → Given → List ℕ → Offered Words
 offerIn s p σ g values =
     let at = placeIn (g .number) (σ .run .opened) (σ .row) in
-    offered (cond (leb (σ .run .opened) 16) (refusalIn p (σ .run) (σ .row) g at) 9) σ (takenIn s p σ g at values)
+    offered (cond (leb (σ .run .opened) mostCalls) (refusalIn p (σ .run) (σ .row) g at) 9) σ (takenIn s p σ g at values)
 
 -- an event as it is given: with how many values, and eight words of them
 abbrev pub givenOf : Event → Given
 givenOf e = record { kind = e .kind; unit = e .unit; number = e .number; count = length (e .values) }
 
 abbrev pub eightOf : Event → List ℕ
-eightOf e = fit 8 0 (e .values)
+eightOf e = fit mostValues 0 (e .values)

@@ -6,6 +6,7 @@ ghost use Prim.Native.Nat.{_+_, _*_, _<_, _≤_, min};
 ghost use lib.ListN.{length, set, take};
 ghost use lib.Seq.{sets};
 ghost use Rattle.condition.specs.Meaning.{environment};
+ghost use Rattle.step.specs.Calls.{mostCalls, mostArmed};
 ghost use Rattle.engine.specs.Plan.{cellOf, candidateOf, postOf};
 ghost use Rattle.engine.specs.Walk.{holdsBy, foundIn, armedIn, lowIn, mainAfter, variablesAfter, runAfter, words, enteredIn, exitedIn};
 use crate::Given;
@@ -16,6 +17,12 @@ use crate::long;
 use crate::place;
 use crate::row;
 use crate::wide;
+use condition::VARIABLES;
+use step::ARMED;
+use step::VALUES;
+
+// The most numbers armed for a call, as a row has their count.
+const MOST_ARMED: u32 = ARMED as u32;
 
 // The unit of an exit's call, and where its words begin.
 pub(crate) struct Leaving {
@@ -29,11 +36,11 @@ pub(crate) fn entered(
     plan: &[u16; PLAN],
     run: Running,
     row: &mut [u32; 256],
-    variables: &mut [u32; 4],
+    variables: &mut [u32; VARIABLES],
     given: Given,
-    values: &[u32; 8],
+    values: &[u32; VALUES],
 ) -> Running
-    requires { ⌜ (run .opened < 16) × (run .position < 4294967295) ⌝ }
+    requires { ⌜ (run .opened < mostCalls) × (run .position < 4294967295) ⌝ }
     ensures { λ r. ⌜ words r (now (row .exit)) (now (variables .exit)) ≡ enteredIn (now (s .entry)) (now (plan .entry)) (words run (now (row .entry)) (now (variables .entry))) given (now (values .entry)) ⌝ }
 {
     let program = condition::front(&values[..], broad(plan[1]));
@@ -54,11 +61,11 @@ pub(crate) fn exited(
     plan: &[u16; PLAN],
     run: Running,
     row: &mut [u32; 256],
-    variables: &mut [u32; 4],
+    variables: &mut [u32; VARIABLES],
     leaving: Leaving,
-    values: &[u32; 8],
+    values: &[u32; VALUES],
 ) -> Running
-    requires { ⌜ (leaving .place + 16 ≤ 16 * run .opened) × (run .opened ≤ 16) × (run .position < 4294967295) ⌝ }
+    requires { ⌜ (leaving .place + 16 ≤ 16 * run .opened) × (run .opened ≤ mostCalls) × (run .position < 4294967295) ⌝ }
     ensures { λ r. ⌜ words r (now (row .exit)) (now (variables .exit)) ≡ exitedIn (now (s .entry)) (now (plan .entry)) (words run (now (row .entry)) (now (variables .entry))) (leaving .unit) (leaving .place) (now (values .entry)) ⌝ }
 {
     let program = condition::front(&values[..], broad(plan[1]));
@@ -131,8 +138,8 @@ fn moved(
     plan: &[u16; PLAN],
     t: usize,
     main: u8,
-    variables: &mut [u32; 4],
-    values: &[u32; 8],
+    variables: &mut [u32; VARIABLES],
+    values: &[u32; VALUES],
 ) -> u8
     requires { ⌜ t ≤ 96 ⌝ }
     ensures { λ r. ⌜ (r ≡ mainAfter (now (plan .entry)) t main) × (now (variables .exit) ≡ variablesAfter (now (s .entry)) (now (plan .entry)) t (now (values .entry)) (now (variables .entry))) ⌝ }
@@ -161,7 +168,7 @@ fn arm<'a>(
     at: usize,
 )
     requires { ⌜ (first < 65536) × (at + 16 ≤ 256) ⌝ }
-    ensures { λ _. ⌜ now (row .exit) ≡ set (sets (now (row .entry)) (at + 3) (take 4 (armedIn (now (s .entry)) (now (plan .entry)) first (environment (now (program .entry)) (now (monitor .entry)) [])))) (at + 2) (length (armedIn (now (s .entry)) (now (plan .entry)) first (environment (now (program .entry)) (now (monitor .entry)) []))) ⌝ }
+    ensures { λ _. ⌜ now (row .exit) ≡ set (sets (now (row .entry)) (at + 3) (take mostArmed (armedIn (now (s .entry)) (now (plan .entry)) first (environment (now (program .entry)) (now (monitor .entry)) [])))) (at + 2) (length (armedIn (now (s .entry)) (now (plan .entry)) first (environment (now (program .entry)) (now (monitor .entry)) []))) ⌝ }
 {
     let mut count: u32 = 0;
     let mut to = at + 3;
@@ -174,7 +181,7 @@ fn arm<'a>(
             monitor,
             &program[..0],
         ) {
-            if count < 4 {
+            if count < MOST_ARMED {
                 row[to] = long(plan[1193 + 3 * i]);
                 to += 1;
             }
@@ -214,9 +221,13 @@ fn lowest_failing<'a>(
 
 // At most four.
 pub(crate) fn four(count: u32) -> usize
-    ensures { λ r. ⌜ (r ≡ min count 4) × (r ≤ 4) ⌝ }
+    ensures { λ r. ⌜ (r ≡ min count mostArmed) × (r ≤ mostArmed) ⌝ }
 {
-    if count < 4 { place(count) } else { 4 }
+    if count < MOST_ARMED {
+        place(count)
+    } else {
+        ARMED
+    }
 }
 
 fn lesser(low: u16, n: u32) -> u16

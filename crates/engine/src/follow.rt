@@ -9,6 +9,7 @@ ghost use Rattle.sheet.specs.Bytes.{word};
 ghost use Rattle.sheet.specs.Table.{table};
 ghost use Rattle.sheet.specs.Decode.{wordForm};
 ghost use Rattle.sheet.specs.Log.{logReading, eventsOf};
+ghost use Rattle.step.specs.Calls.{mostValues};
 ghost use Rattle.step.specs.Answers.{runPaper, ranAnswer};
 ghost use Rattle.engine.specs.Runs.{startIn, followIn, endsBy, givenAt};
 use crate::Given;
@@ -17,12 +18,14 @@ use crate::Running;
 use crate::advance;
 use crate::place;
 use crate::wide;
+use condition::VARIABLES;
 use step::Outcome;
 use step::RunAnswer;
+use step::VALUES;
 
 // Follows the records of a log, of so many values each, from the state before the first event.
 pub(crate) fn follow(s: &[u8], plan: &[u16; PLAN], log: &[u8], programs: u8) -> RunAnswer
-    requires { ⌜ (logReading programs (now log) ≡ 0) × (programs ≤ 8) ⌝ }
+    requires { ⌜ (logReading programs (now log) ≡ 0) × (programs ≤ mostValues) ⌝ }
     ensures { λ r. ⌜ runPaper r ≡ ranAnswer endsBy (followIn (now (s .entry)) (now (plan .entry)) (eventsOf programs (now (log .entry)))) ⌝ }
 {
     let count = wide(programs);
@@ -31,7 +34,7 @@ pub(crate) fn follow(s: &[u8], plan: &[u16; PLAN], log: &[u8], programs: u8) -> 
     let mut run = started(s);
     let mut row = [0u32; 256];
     let mut variables = initial(s);
-    let mut values = [0u32; 8];
+    let mut values = [0u32; VALUES];
     let mut i: u32 = 0;
     let mut at = 6;
     while at < end {
@@ -69,7 +72,7 @@ fn started(s: &[u8]) -> Running
 }
 
 // The initial values of the variables.
-fn initial(s: &[u8]) -> [u32; 4]
+fn initial(s: &[u8]) -> [u32; VARIABLES]
     ensures { λ r. ⌜ r ≡ startIn (now (s .entry)) .variables ⌝ }
 {
     let h = sheet::header_of(s);
@@ -91,8 +94,8 @@ fn given_at(log: &[u8], at: usize, programs: u8) -> Given
 }
 
 // Reads the n values from a place on; the words behind them stay as they were.
-fn read_values(log: &[u8], at: usize, n: usize, values: &mut [u32; 8])
-    requires { ⌜ (at + 4 * n ≤ length (now log)) × (n ≤ 8) ⌝ }
+fn read_values(log: &[u8], at: usize, n: usize, values: &mut [u32; VALUES])
+    requires { ⌜ (at + 4 * n ≤ length (now log)) × (n ≤ mostValues) ⌝ }
     ensures { λ _. ⌜ now (values .exit) ≡ sets (now (values .entry)) 0 (table wordForm n (now (log .entry)) at) ⌝ }
 {
     let mut i = 0;

@@ -7,14 +7,18 @@ ghost use Rattle.sheet.specs.Bytes.{byte, half};
 ghost use Rattle.sheet.specs.Reading.{reading, sheetLayout, networkLayout};
 ghost use Rattle.sheet.specs.Answer.{readingPaper, answer};
 ghost use Rattle.sheet.specs.Log.{logReading, eventsOf};
+ghost use Rattle.step.specs.Calls.{mostValues};
 ghost use Rattle.step.specs.Answers.{runPaper, unlessTaken, unlessRefused, ranAnswer};
 ghost use Rattle.engine.specs.Prepared.{sheetInto, networkInto};
 ghost use Rattle.engine.specs.Runs.{followIn, endsBy, sheetRun, networkRun};
 ghost use Rattle.engine.specs.Walk.{words, offerIn};
+use condition::VARIABLES;
 use sheet::LogReading;
 use sheet::Reading;
+use step::CALLS;
 use step::Outcome;
 use step::RunAnswer;
+use step::VALUES;
 
 mod event;
 mod follow;
@@ -27,6 +31,9 @@ mod row;
 pub const PLAN: usize = 2344;
 
 pub const ABSENT: u16 = 1000;
+
+// The most calls, as a state has their count.
+const MOST_OPENED: u8 = CALLS as u8;
 
 // What a state has beside its calls and its variables.
 pub struct Running {
@@ -106,7 +113,7 @@ pub fn run_network(s: &[u8], log: &[u8]) -> RunAnswer
 
 // Reads a log and follows it.
 fn run_planned(s: &[u8], plan: &[u16; PLAN], log: &[u8]) -> RunAnswer
-    requires { ⌜ byte (now s) 5 ≤ 8 ⌝ }
+    requires { ⌜ byte (now s) 5 ≤ mostValues ⌝ }
     ensures { λ r. ⌜ runPaper r ≡ unlessRefused (logReading (byte (now (s .entry)) 5) (now (log .entry))) (ranAnswer endsBy (followIn (now (s .entry)) (now (plan .entry)) (eventsOf (byte (now (s .entry)) 5) (now (log .entry))))) ⌝ }
 {
     let h = sheet::header_of(s);
@@ -129,14 +136,14 @@ pub fn advance(
     plan: &[u16; PLAN],
     run: Running,
     row: &mut [u32; 256],
-    variables: &mut [u32; 4],
+    variables: &mut [u32; VARIABLES],
     given: Given,
-    values: &[u32; 8],
+    values: &[u32; VALUES],
 ) -> Advanced
     ensures { λ r. ⌜ r ≡ record { answer = offerIn (now (s .entry)) (now (plan .entry)) (words run (now (row .entry)) (now (variables .entry))) given (now (values .entry)) .answer; run = offerIn (now (s .entry)) (now (plan .entry)) (words run (now (row .entry)) (now (variables .entry))) given (now (values .entry)) .state .run } ⌝ }
     ensures { λ _. ⌜ (now (row .exit) ≡ offerIn (now (s .entry)) (now (plan .entry)) (words run (now (row .entry)) (now (variables .entry))) given (now (values .entry)) .state .row) × (now (variables .exit) ≡ offerIn (now (s .entry)) (now (plan .entry)) (words run (now (row .entry)) (now (variables .entry))) given (now (values .entry)) .state .variables) ⌝ }
 {
-    if run.opened <= 16 {} else {
+    if run.opened <= MOST_OPENED {} else {
         return Advanced { answer: 9, run };
     }
     let place = row::place_of(row, wide(run.opened), long(given.number));

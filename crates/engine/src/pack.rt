@@ -4,7 +4,7 @@ ghost use mathlib.Core.Path.{_≡_};
 ghost use mathlib.Core.Bool.{cond};
 ghost use Prim.Native.Nat.{_%_, _<_};
 ghost use lib.ListN.{length};
-ghost use Rattle.step.specs.Calls.{eventOf};
+ghost use Rattle.step.specs.Calls.{mostValues, mostArmed, eventOf};
 ghost use Rattle.engine.specs.Packed.{putAt, callAt, armsAt};
 ghost use Rattle.engine.specs.Walk.{givenOf};
 use crate::Given;
@@ -12,23 +12,25 @@ use crate::event;
 use crate::long;
 use crate::word;
 use sheet::Record;
+use step::ARMED;
+use step::CALLS;
 use step::Call;
 
 // What is armed for a call: the first `count` of four numbers.
 pub struct Arms {
     pub count: u8,
-    pub numbers: [u8; 4],
+    pub numbers: [u8; ARMED],
 }
 
 // Puts a call at the ith place, with what is armed for it; past the sixteenth nothing.
 pub fn put(row: &mut [u32; 256], i: usize, call: Call, arms: Arms)
-    ensures { λ _. ⌜ (now (row .exit) ≡ putAt (now (row .entry)) i call arms) × (call .number < 65536) × (call .unit < 256) × (length (call .kept) ≡ 8) × (length (arms .numbers) ≡ 4) ⌝ }
+    ensures { λ _. ⌜ (now (row .exit) ≡ putAt (now (row .entry)) i call arms) × (call .number < 65536) × (call .unit < 256) × (length (call .kept) ≡ mostValues) × (length (arms .numbers) ≡ mostArmed) ⌝ }
 {
     let number = long(call.number);
     let unit = word(call.unit);
     let kept = call.kept;
     let numbers = arms.numbers;
-    if i < 16 {
+    if i < CALLS {
         let at = 16 * i;
         row[at] = number;
         row[at + 1] = unit;
@@ -53,7 +55,7 @@ pub fn put(row: &mut [u32; 256], i: usize, call: Call, arms: Arms)
 pub fn call_at(row: &[u32; 256], i: usize, programs: usize) -> Call
     ensures { λ r. ⌜ r ≡ callAt (now (row .entry)) i programs ⌝ }
 {
-    if i < 16 {} else {
+    if i < CALLS {} else {
         return step::rows::no_call();
     }
     let all = &row[..];
@@ -69,10 +71,10 @@ pub fn call_at(row: &[u32; 256], i: usize, programs: usize) -> Call
 pub fn arms_at(row: &[u32; 256], i: usize) -> Arms
     ensures { λ r. ⌜ r ≡ armsAt (now (row .entry)) i ⌝ }
 {
-    if i < 16 {} else {
+    if i < CALLS {} else {
         return Arms {
             count: 0,
-            numbers: [0; 4],
+            numbers: [0; ARMED],
         };
     }
     let all = &row[..];

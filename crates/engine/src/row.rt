@@ -5,6 +5,7 @@ ghost use mathlib.Core.Path.{_≡_};
 ghost use mathlib.Core.List.{[], _∷_};
 ghost use Prim.Native.Nat.{_+_, _*_, _<_, _≤_};
 ghost use lib.Seq.{sets};
+ghost use Rattle.step.specs.Calls.{mostCalls};
 ghost use Rattle.engine.specs.Walk.{placeIn, entryRefusal, exitRefusal, refusalIn, rowWithout};
 use crate::Given;
 use crate::PLAN;
@@ -13,10 +14,12 @@ use crate::broad;
 use crate::long;
 use crate::wide;
 use crate::word;
+use step::CALLS;
+use step::VALUES;
 
 // Where the words of the call of a number begin among the first `opened`, or where those end.
 pub(crate) fn place_of(row: &[u32; 256], opened: usize, number: u32) -> usize
-    requires { ⌜ opened ≤ 16 ⌝ }
+    requires { ⌜ opened ≤ mostCalls ⌝ }
     ensures { λ r. ⌜ r ≡ placeIn number opened (now (row .entry)) ⌝ }
 {
     let end = 16 * opened;
@@ -38,7 +41,7 @@ pub(crate) fn refusal(
     given: Given,
     place: usize,
 ) -> u8
-    requires { ⌜ (run .opened ≤ 16) × (place < 16 * run .opened → place + 16 ≤ 256) ⌝ }
+    requires { ⌜ (run .opened ≤ mostCalls) × (place < 16 * run .opened → place + 16 ≤ 256) ⌝ }
     ensures { λ r. ⌜ r ≡ refusalIn (now (plan .entry)) run (now (row .entry)) given place ⌝ }
 {
     let outcome = run.outcome;
@@ -62,19 +65,19 @@ pub(crate) fn refusal(
 
 // An entry's: 13 where its number is open, 14 where sixteen are.
 fn entry_refusal(opened: usize, place: usize) -> u8
-    requires { ⌜ opened ≤ 16 ⌝ }
+    requires { ⌜ opened ≤ mostCalls ⌝ }
     ensures { λ r. ⌜ r ≡ entryRefusal opened place ⌝ }
 {
     if place < 16 * opened {
         13
     } else {
-        if opened < 16 { 0 } else { 14 }
+        if opened < CALLS { 0 } else { 14 }
     }
 }
 
 // An exit's: 15 where its number is not open, or for another unit.
 fn exit_refusal(row: &[u32; 256], opened: usize, place: usize, unit: u32) -> u8
-    requires { ⌜ (opened ≤ 16) × (place < 16 * opened → place + 16 ≤ 256) ⌝ }
+    requires { ⌜ (opened ≤ mostCalls) × (place < 16 * opened → place + 16 ≤ 256) ⌝ }
     ensures { λ r. ⌜ r ≡ exitRefusal (now (row .entry)) opened place unit ⌝ }
 {
     if place < 16 * opened {
@@ -85,7 +88,7 @@ fn exit_refusal(row: &[u32; 256], opened: usize, place: usize, unit: u32) -> u8
 }
 
 // Stores the number, the unit and the values of a call, all eight of them: that takes two moves.
-pub(crate) fn put(row: &mut [u32; 256], at: usize, given: Given, values: &[u32; 8])
+pub(crate) fn put(row: &mut [u32; 256], at: usize, given: Given, values: &[u32; VALUES])
     requires { ⌜ at + 16 ≤ 256 ⌝ }
     ensures { λ _. ⌜ now (row .exit) ≡ sets (sets (now (row .entry)) at (given .number ∷ given .unit ∷ [])) (at + 8) (now (values .entry)) ⌝ }
 {
@@ -104,7 +107,7 @@ pub(crate) fn put(row: &mut [u32; 256], at: usize, given: Given, values: &[u32; 
 
 // Moves the words behind the call at a place to it.
 pub(crate) fn close(row: &mut [u32; 256], place: usize, opened: usize)
-    requires { ⌜ (place + 16 ≤ 16 * opened) × (opened ≤ 16) ⌝ }
+    requires { ⌜ (place + 16 ≤ 16 * opened) × (opened ≤ mostCalls) ⌝ }
     ensures { λ _. ⌜ now (row .exit) ≡ rowWithout (now (row .entry)) place opened ⌝ }
 {
     let all = &mut row[..];

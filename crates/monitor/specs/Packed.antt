@@ -2,8 +2,10 @@
 use mathlib.Core.List.{List, map}
 use Prim.Native.Nat.{ℕ}
 use lib.ListN.{take}
+use Rattle.condition.specs.Answer.{mostVariables}
 use Rattle.sheet.specs.Table.{fit}
 use Rattle.step.specs.Lists.{beside}
+use Rattle.step.specs.Calls.{mostCalls}
 use Rattle.step.specs.Padding.{zeroCall}
 use Rattle.engine.specs.declared.Running.{Running}
 use Rattle.engine.specs.declared.pack.Arms as Engine
@@ -34,10 +36,10 @@ unpacked programs monitors σ =
     let ws = entries (σ .run .opened) (σ .row) in
     record {
       main = σ .run .main;
-      variables = fit 4 0 (take monitors (σ .variables));
+      variables = fit mostVariables 0 (take monitors (σ .variables));
       opened = σ .run .opened;
-      calls = fit 16 zeroCall (map (callIn programs) ws);
-      arms = fit 16 zeroArms (map (λ w. toTriples (armsIn w)) ws);
+      calls = fit mostCalls zeroCall (map (callIn programs) ws);
+      arms = fit mostCalls zeroArms (map (λ w. toTriples (armsIn w)) ws);
       position = σ .run .position;
       outcome = σ .run .outcome;
     }

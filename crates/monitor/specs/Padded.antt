@@ -4,6 +4,7 @@ use mathlib.Core.List.{List, map}
 use Prim.Native.Nat.{ℕ}
 use lib.Dec.{eqb, leb}
 use lib.ListN.{length, replicate, take, drop}
+use Rattle.condition.specs.Answer.{mostVariables}
 use Rattle.sheet.specs.Table.{every, fit}
 use Rattle.sheet.specs.Parts.{Sheet}
 use Rattle.sheet.specs.Decode.{sheetOf}
@@ -11,7 +12,7 @@ use Rattle.sheet.specs.Reading.{reading, sheetLayout}
 use Rattle.step.specs.declared.Call.{Call}
 use Rattle.step.specs.declared.Outcome.the-variants.{Open}
 use Rattle.step.specs.Lists.{beside}
-use Rattle.step.specs.Calls.{mostCalls}
+use Rattle.step.specs.Calls.{mostCalls, mostValues, mostArmed}
 use Rattle.step.specs.Verdicts.{outcomeOf, verdictIn}
 use Rattle.step.specs.Answers.{unlessTaken}
 use Rattle.step.specs.Padding.{unpad, zeroCall, padCall, clear, padded, isZeroCall}
@@ -21,24 +22,24 @@ use Rattle.monitor.specs.Monitor.{Armed, State, fresh}
 use Rattle.monitor.specs.Sound.{sound}
 
 abbrev pub zeroArms : Arms
-zeroArms = record { count = 0; triples = replicate 4 0 }
+zeroArms = record { count = 0; triples = replicate mostArmed 0 }
 
 -- "an all-zero state"
 abbrev pub zeroState : WatchState
-zeroState = record { main = 0; variables = replicate 4 0; opened = 0; calls = replicate 16 zeroCall; arms = replicate 16 zeroArms; position = 0; outcome = Open }
+zeroState = record { main = 0; variables = replicate mostVariables 0; opened = 0; calls = replicate mostCalls zeroCall; arms = replicate mostCalls zeroArms; position = 0; outcome = Open }
 
 abbrev pub padArms : List ℕ → Arms
-padArms l = record { count = length l; triples = fit 4 0 l }
+padArms l = record { count = length l; triples = fit mostArmed 0 l }
 
 -- "calls fill the first places ..; unused places and variables are zero"
 unfoldable pub pad : State → WatchState
 pad σ =
     record {
       main = σ .configuration .main;
-      variables = fit 4 0 (σ .configuration .variables);
+      variables = fit mostVariables 0 (σ .configuration .variables);
       opened = length (σ .calls);
-      calls = fit 16 zeroCall (map (λ (a : Armed). padCall (a .call)) (σ .calls));
-      arms = fit 16 zeroArms (map (λ (a : Armed). padArms (a .armed)) (σ .calls));
+      calls = fit mostCalls zeroCall (map (λ (a : Armed). padCall (a .call)) (σ .calls));
+      arms = fit mostCalls zeroArms (map (λ (a : Armed). padArms (a .armed)) (σ .calls));
       position = σ .position;
       outcome = outcomeOf (σ .verdict);
     }
@@ -61,13 +62,13 @@ abbrev pub isZeroArms : Arms → Bool
 isZeroArms a = eqb (a .count) 0 && clear 0 (a .triples)
 
 abbrev pub tidyArms : Arms → Bool
-tidyArms a = leb (a .count) 4 && padded 4 (a .count) (a .triples)
+tidyArms a = leb (a .count) mostArmed && padded mostArmed (a .count) (a .triples)
 
 -- "unused places and variables are zero"; the lengths are those of the code's types, which a list does not know
 unfoldable pub tidy : Sheet → WatchState → Bool
 tidy S w =
-    padded 4 (S .common .monitors) (w .variables) && (eqb (length (w .calls)) 16 && (eqb (length (w .arms)) 16
-    && (every (λ (c : Call). padded 8 (S .common .programs) (c .kept)) (w .calls) && (every tidyArms (w .arms) && (every isZeroCall (drop (w .opened) (w .calls)) && every isZeroArms (drop (w .opened) (w .arms)))))))
+    padded mostVariables (S .common .monitors) (w .variables) && (eqb (length (w .calls)) mostCalls && (eqb (length (w .arms)) mostCalls
+    && (every (λ (c : Call). padded mostValues (S .common .programs) (c .kept)) (w .calls) && (every tidyArms (w .arms) && (every isZeroCall (drop (w .opened) (w .calls)) && every isZeroArms (drop (w .opened) (w .arms)))))))
 
 -- "A state is sound if ..": what it shows is, and the rest is zero
 unfoldable pub soundState : Sheet → WatchState → Bool

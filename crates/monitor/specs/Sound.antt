@@ -9,7 +9,7 @@ use Rattle.sheet.specs.Table.{every}
 use Rattle.sheet.specs.Parts.{Sheet}
 use Rattle.step.specs.declared.Verdict.{Verdict}
 use Rattle.step.specs.Lists.{distinct}
-use Rattle.step.specs.Calls.{mostCalls}
+use Rattle.step.specs.Calls.{mostCalls, mostArmed}
 use Rattle.step.specs.Verdicts.{verdictFits}
 use Rattle.monitor.specs.Monitor.{Armed, State, tripleIn}
 
@@ -26,7 +26,7 @@ ofOneState S l = every (λ i. eqb (tripleIn S i .state) (tripleIn S (getD l 0 0)
 unfoldable pub callSound : Sheet → Armed → Bool
 callSound S a =
     ltb (a .call .unit) (S .common .units) && (eqb (length (a .call .kept)) (S .common .programs)
-    && (leb (length (a .armed)) 4 && (rising (a .armed) && (every (λ i. ltb i (length (S .triples)) && eqb (tripleIn S i .unit) (a .call .unit)) (a .armed) && ofOneState S (a .armed)))))
+    && (leb (length (a .armed)) mostArmed && (rising (a .armed) && (every (λ i. ltb i (length (S .triples)) && eqb (tripleIn S i .unit) (a .call .unit)) (a .armed) && ofOneState S (a .armed)))))
 
 abbrev pub verdictSound : Sheet → ℕ → ℕ → Option Verdict → Bool
 verdictSound S main position v = verdictFits (S .common .bad) (length (S .triples)) main position v

@@ -50,13 +50,13 @@ pub struct Offered {
 }
 
 impl WatchState {
-    pub const CALLS: usize = 16;
+    pub const CALLS: usize = step::CALLS;
 
-    pub const ARMED: usize = 4;
+    pub const ARMED: usize = step::ARMED;
 
-    pub const VARIABLES: usize = 4;
+    pub const VARIABLES: usize = condition::VARIABLES;
 
-    pub const VALUES: usize = 8;
+    pub const VALUES: usize = step::VALUES;
 
     // The state all of whose fields are zero, with no verdict.
     pub fn zero() -> WatchState

@@ -6,6 +6,7 @@ ghost use Prim.Native.Nat.{_≤_};
 ghost use lib.Dec.{ltb};
 ghost use lib.ListN.{length, take};
 ghost use Rattle.sheet.specs.Table.{every};
+ghost use Rattle.step.specs.Calls.{mostCalls};
 ghost use Rattle.engine.specs.Walk.{entries, words};
 ghost use Rattle.monitor.specs.Packed.{runningOf, toNumbers, toTriples, callWords, unpacked};
 use crate::Arms;
@@ -29,7 +30,7 @@ pub(crate) fn running(state: WatchState) -> Running
 
 // The open calls in a row, each with what is armed for it.
 pub(crate) fn row(state: WatchState) -> [u32; 256]
-    requires { ⌜ state .opened ≤ 16 ⌝ }
+    requires { ⌜ state .opened ≤ mostCalls ⌝ }
     ensures { λ r. ⌜ (entries (state .opened) r ≡ callWords state) × (every (λ c. ltb (c .number) 65536 && ltb (c .unit) 256) (take (state .opened) (state .calls)) ≡ true) × (length r ≡ 256) ⌝ }
 {
     let calls = state.calls;
@@ -48,20 +49,20 @@ pub(crate) fn row(state: WatchState) -> [u32; 256]
 pub(crate) fn unpack(
     run: Running,
     row: &[u32; 256],
-    variables: &[u32; 4],
+    variables: &[u32; WatchState::VARIABLES],
     programs: usize,
     monitors: usize,
 ) -> WatchState
-    requires { ⌜ run .opened ≤ 16 ⌝ }
+    requires { ⌜ run .opened ≤ mostCalls ⌝ }
     ensures { λ r. ⌜ r ≡ unpacked programs monitors (words run (now (row .entry)) (now (variables .entry))) ⌝ }
 {
     let opened = wide(run.opened);
     let w = step::rows::eight(condition::front(&variables[..], monitors));
-    let mut calls = [step::rows::no_call(); 16];
+    let mut calls = [step::rows::no_call(); WatchState::CALLS];
     let mut arms = [Arms {
         count: 0,
-        triples: [0; 4],
-    }; 16];
+        triples: [0; WatchState::ARMED],
+    }; WatchState::CALLS];
     let mut i = 0;
     while i < opened {
         calls[i] = engine::pack::call_at(row, i, programs);

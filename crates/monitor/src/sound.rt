@@ -5,11 +5,13 @@ ghost use mathlib.Core.Bool.{_&&_};
 ghost use Prim.Native.Nat.{_<_};
 ghost use lib.Dec.{eqb, ltb};
 ghost use lib.ListN.{length, getD, take, drop};
+ghost use Rattle.condition.specs.Answer.{mostVariables};
 ghost use Rattle.sheet.specs.Table.{every};
 ghost use Rattle.sheet.specs.Decode.{sheetOf};
 ghost use Rattle.sheet.specs.Reading.{reading, sheetLayout};
 ghost use Rattle.sheet.specs.Answer.{headerOf};
 ghost use Rattle.step.specs.Lists.{beside};
+ghost use Rattle.step.specs.Calls.{mostCalls, mostValues};
 ghost use Rattle.step.specs.Padding.{clear};
 ghost use Rattle.monitor.specs.Sound.{rising, callSound};
 ghost use Rattle.monitor.specs.Padded.{unpadArmed, isZeroArms, tidyArms, soundState};
@@ -50,22 +52,22 @@ pub(crate) fn sound(s: &[u8], t: Tables, state: WatchState) -> bool
         & (calls_tidy & (arms_tidy(arms) & arms_clear(arms, opened)));
     let row = step::rows::numbers_distinct(calls, opened) & calls_sound(s, t, calls, arms, opened);
     let rest = step::outcomes::outcome_fits(h.bad, h.last, state.main, state.position, outcome);
-    (opened <= 16) & (tidy & ((state.main < h.states) & (row & rest)))
+    (opened <= WatchState::CALLS) & (tidy & ((state.main < h.states) & (row & rest)))
 }
 
 // How many calls are open, in rows of sixteen places.
 fn opened_in(state: WatchState) -> usize
-    ensures { λ r. ⌜ (r ≡ state .opened) × (length (state .variables) ≡ 4) × (length (state .calls) ≡ 16) × (length (state .arms) ≡ 16) ⌝ }
+    ensures { λ r. ⌜ (r ≡ state .opened) × (length (state .variables) ≡ mostVariables) × (length (state .calls) ≡ mostCalls) × (length (state .arms) ≡ mostCalls) ⌝ }
 {
     wide(state.opened)
 }
 
 // Whether at most four triples are armed for each call, with zeros behind them.
-fn arms_tidy(arms: [Arms; 16]) -> bool
+fn arms_tidy(arms: [Arms; WatchState::CALLS]) -> bool
     ensures { λ r. ⌜ r ≡ every tidyArms arms ⌝ }
 {
     let mut i = 0;
-    while i < 16 {
+    while i < WatchState::CALLS {
         if is_tidy(arms[i]) {} else {
             return false;
         }
@@ -80,15 +82,15 @@ fn is_tidy(arms: Arms) -> bool
     let count = wide(arms.count);
     let triples = arms.triples;
     let clear = triples_clear(triples, count);
-    (count <= 4) & clear
+    (count <= WatchState::ARMED) & clear
 }
 
 // Whether nothing is armed from a place on.
-fn arms_clear(arms: [Arms; 16], from: usize) -> bool
+fn arms_clear(arms: [Arms; WatchState::CALLS], from: usize) -> bool
     ensures { λ r. ⌜ r ≡ every isZeroArms (drop from arms) ⌝ }
 {
     let mut i = from;
-    while i < 16 {
+    while i < WatchState::CALLS {
         let a = arms[i];
         let triples = a.triples;
         if (a.count == 0) & triples_clear(triples, 0) {} else {
@@ -100,11 +102,11 @@ fn arms_clear(arms: [Arms; 16], from: usize) -> bool
 }
 
 // Whether all of four numbers from a place on are zero.
-fn triples_clear(triples: [u8; 4], from: usize) -> bool
+fn triples_clear(triples: [u8; WatchState::ARMED], from: usize) -> bool
     ensures { λ r. ⌜ r ≡ clear from triples ⌝ }
 {
     let mut i = from;
-    while i < 4 {
+    while i < WatchState::ARMED {
         if triples[i] == 0 {} else {
             return false;
         }
@@ -114,13 +116,19 @@ fn triples_clear(triples: [u8; 4], from: usize) -> bool
 }
 
 // Whether each of the first `opened` calls is sound with what is armed for it.
-fn calls_sound(s: &[u8], t: Tables, calls: [Call; 16], arms: [Arms; 16], opened: usize) -> bool
+fn calls_sound(
+    s: &[u8],
+    t: Tables,
+    calls: [Call; WatchState::CALLS],
+    arms: [Arms; WatchState::CALLS],
+    opened: usize,
+) -> bool
     requires { ⌜ (reading sheetLayout (now s) ≡ 0) × (t ≡ tablesOf (now s)) ⌝ }
     ensures { λ r. ⌜ r ≡ every (callSound (sheetOf (now (s .entry)))) (beside (unpadArmed (t .header .programs)) (take opened calls) (take opened arms)) ⌝ }
 {
     let mut i = 0;
     while i < opened {
-        if i < 16 {
+        if i < WatchState::CALLS {
             if call_sound(s, t, calls[i], arms[i]) {} else {
                 return false;
             }
@@ -147,18 +155,18 @@ fn call_sound(s: &[u8], t: Tables, call: Call, arms: Arms) -> bool
 
 // Whether a call's unit is below U. A call keeps eight values.
 fn unit_below(call: Call, units: u8) -> bool
-    ensures { λ r. ⌜ (r ≡ ltb (call .unit) units) × (length (call .kept) ≡ 8) ⌝ }
+    ensures { λ r. ⌜ (r ≡ ltb (call .unit) units) × (length (call .kept) ≡ mostValues) ⌝ }
 {
     call.unit < units
 }
 
 // Whether the first `count` of four numbers rise.
-fn rising(triples: [u8; 4], count: usize) -> bool
+fn rising(triples: [u8; WatchState::ARMED], count: usize) -> bool
     ensures { λ r. ⌜ r ≡ rising (take count triples) ⌝ }
 {
     let mut i = 1;
     while i < count {
-        if i < 4 {
+        if i < WatchState::ARMED {
             if triples[i - 1] < triples[i] {} else {
                 return false;
             }
@@ -171,12 +179,19 @@ fn rising(triples: [u8; 4], count: usize) -> bool
 }
 
 // Whether the first `count` of four numbers are those of triples, of a unit.
-fn of_unit(s: &[u8], at: u16, n: u8, triples: [u8; 4], count: usize, unit: u8) -> bool
+fn of_unit(
+    s: &[u8],
+    at: u16,
+    n: u8,
+    triples: [u8; WatchState::ARMED],
+    count: usize,
+    unit: u8,
+) -> bool
     ensures { λ r. ⌜ r ≡ every (λ i. ltb i n && eqb (tripleAt (now (s .entry)) at i .unit) unit) (take count triples) ⌝ }
 {
     let mut i = 0;
     while i < count {
-        if i < 4 {
+        if i < WatchState::ARMED {
             let k = triples[i];
             let t = sheet::triple_at(s, long(at) + 4 * word(k));
             if (k < n) & (t.unit == unit) {} else {
@@ -192,7 +207,7 @@ fn of_unit(s: &[u8], at: u16, n: u8, triples: [u8; 4], count: usize, unit: u8) -
 
 // Whether the triples of the first `count` of four numbers are of one state, that of the first. One
 // is of its own.
-fn of_one_state(s: &[u8], at: u16, triples: [u8; 4], count: usize) -> bool
+fn of_one_state(s: &[u8], at: u16, triples: [u8; WatchState::ARMED], count: usize) -> bool
     ensures { λ r. ⌜ r ≡ every (λ i. eqb (tripleAt (now (s .entry)) at i .state) (tripleAt (now (s .entry)) at (getD triples 0 0) .state)) (take count triples) ⌝ }
 {
     if count < 2 {
@@ -201,7 +216,7 @@ fn of_one_state(s: &[u8], at: u16, triples: [u8; 4], count: usize) -> bool
     let first = sheet::triple_at(s, long(at) + 4 * word(triples[0]));
     let mut i = 0;
     while i < count {
-        if i < 4 {
+        if i < WatchState::ARMED {
             let t = sheet::triple_at(s, long(at) + 4 * word(triples[i]));
             if t.state == first.state {} else {
                 return false;

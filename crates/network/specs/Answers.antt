@@ -11,6 +11,7 @@ use Rattle.sheet.specs.Reading.{reading, networkLayout}
 use Rattle.sheet.specs.Log.{Event}
 use Rattle.step.specs.declared.Call.{Call}
 use Rattle.step.specs.Lists.{first}
+use Rattle.step.specs.Calls.{mostValues}
 use Rattle.step.specs.Runs.{Offered}
 use Rattle.step.specs.Answers.{Ending, offeredOn, cleanIn, ranOn}
 use Rattle.network.specs.declared.NetworkState.{NetworkState}
@@ -27,8 +28,8 @@ runOf n log = ranOn (reading networkLayout n) (byte n 5) log (λ σ. cleanIn (σ
 
 -- "its kept values": those of the open call that a checker is bound to, for the checker at a place of the row
 abbrev pub keptBy : Option Call → List ℕ
-keptBy none = replicate 8 0
+keptBy none = replicate mostValues 0
 keptBy (some c) = c .kept
 
 unfoldable pub entryValues : NetworkState → ℕ → List ℕ
-entryValues w i = cond (ltb i (w .living) && ltb i mostCheckers) (keptBy (first (λ (c : Call). eqb (c .number) (getD (w .checkers) i zeroChecker .number)) (take (w .opened) (w .calls)))) (replicate 8 0)
+entryValues w i = cond (ltb i (w .living) && ltb i mostCheckers) (keptBy (first (λ (c : Call). eqb (c .number) (getD (w .checkers) i zeroChecker .number)) (take (w .opened) (w .calls)))) (replicate mostValues 0)

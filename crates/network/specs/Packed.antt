@@ -3,8 +3,10 @@ use mathlib.Core.Bool.{Bool, cond}
 use mathlib.Core.List.{List, [], _∷_, _++_, map}
 use Prim.Native.Nat.{ℕ, zero, suc, _/_, _%_}
 use lib.ListN.{length, take, drop}
+use Rattle.condition.specs.Answer.{mostVariables}
 use Rattle.sheet.specs.Table.{fit}
 use Rattle.step.specs.declared.Call.{Call}
+use Rattle.step.specs.Calls.{mostCalls, mostArmed}
 use Rattle.step.specs.Padding.{zeroCall}
 use Rattle.engine.specs.declared.Running.{Running}
 use Rattle.engine.specs.declared.pack.Arms.{Arms}
@@ -14,7 +16,7 @@ use Rattle.network.specs.declared.Checker.{Checker}
 use Rattle.network.specs.declared.NetworkState.{NetworkState}
 use Rattle.network.specs.Network.{boundTo}
 use Rattle.network.specs.Grouped.{checker}
-use Rattle.network.specs.Padded.{zeroChecker}
+use Rattle.network.specs.Padded.{zeroChecker, mostCheckers}
 
 -- what stands beside the calls, checkers and variables
 abbrev pub runningOf : NetworkState → Running
@@ -32,10 +34,10 @@ front p (suc n) (x ∷ l) = cond (p x) (x ∷ front p n l) []
 
 -- the templates of the checkers of a call that a row begins with, at most four
 abbrev pub ownOf : ℕ → List Checker → List ℕ
-ownOf n l = map (λ (h : Checker). h .template) (front (boundTo n) 4 l)
+ownOf n l = map (λ (h : Checker). h .template) (front (boundTo n) mostArmed l)
 
 abbrev pub armsOf : List ℕ → Arms
-armsOf l = record { count = length l; numbers = fit 4 0 l }
+armsOf l = record { count = length l; numbers = fit mostArmed 0 l }
 
 -- the words of calls, whose checkers follow each other in a row
 unfoldable pub wordsIn : List Call → List Checker → List (List ℕ)
@@ -60,11 +62,11 @@ unpacked programs monitors σ =
     let ws = entries (σ .run .opened) (σ .row) in
     record {
       main = σ .run .main;
-      variables = fit 4 0 (take monitors (σ .variables));
+      variables = fit mostVariables 0 (take monitors (σ .variables));
       opened = σ .run .opened;
-      calls = fit 16 zeroCall (map (callIn programs) ws);
+      calls = fit mostCalls zeroCall (map (callIn programs) ws);
       living = length (checkersIn ws);
-      checkers = fit 64 zeroChecker (checkersIn ws);
+      checkers = fit mostCheckers zeroChecker (checkersIn ws);
       position = σ .run .position;
       outcome = σ .run .outcome;
     }

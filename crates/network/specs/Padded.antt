@@ -4,13 +4,14 @@ use mathlib.Core.List.{List, map}
 use Prim.Native.Nat.{ℕ}
 use lib.Dec.{eqb, leb}
 use lib.ListN.{length, replicate, take, drop}
+use Rattle.condition.specs.Answer.{mostVariables}
 use Rattle.sheet.specs.Table.{every, fit}
 use Rattle.sheet.specs.Parts.{Network}
 use Rattle.sheet.specs.Decode.{networkOf}
 use Rattle.sheet.specs.Reading.{reading, networkLayout}
 use Rattle.step.specs.declared.Call.{Call}
 use Rattle.step.specs.declared.Outcome.the-variants.{Open}
-use Rattle.step.specs.Calls.{mostCalls}
+use Rattle.step.specs.Calls.{mostCalls, mostValues}
 use Rattle.step.specs.Verdicts.{outcomeOf, verdictIn}
 use Rattle.step.specs.Padding.{unpad, zeroCall, padCall, padded, isZeroCall}
 use Rattle.step.specs.Answers.{unlessTaken}
@@ -28,18 +29,18 @@ mostCheckers = 64
 
 -- "an all-zero state"
 abbrev pub zeroState : NetworkState
-zeroState = record { main = 0; variables = replicate 4 0; opened = 0; calls = replicate 16 zeroCall; living = 0; checkers = replicate 64 zeroChecker; position = 0; outcome = Open }
+zeroState = record { main = 0; variables = replicate mostVariables 0; opened = 0; calls = replicate mostCalls zeroCall; living = 0; checkers = replicate mostCheckers zeroChecker; position = 0; outcome = Open }
 
 -- "calls fill the first places ..; unused places and variables are zero"
 unfoldable pub pad : State → NetworkState
 pad σ =
     record {
       main = σ .configuration .main;
-      variables = fit 4 0 (σ .configuration .variables);
+      variables = fit mostVariables 0 (σ .configuration .variables);
       opened = length (σ .calls);
-      calls = fit 16 zeroCall (map padCall (σ .calls));
+      calls = fit mostCalls zeroCall (map padCall (σ .calls));
       living = length (σ .checkers);
-      checkers = fit 64 zeroChecker (σ .checkers);
+      checkers = fit mostCheckers zeroChecker (σ .checkers);
       position = σ .position;
       outcome = outcomeOf (σ .verdict);
     }
@@ -61,8 +62,8 @@ isZeroChecker h = eqb (h .number) 0 && eqb (h .template) 0
 -- "unused places and variables are zero"; the lengths are those of the code's types, which a list does not know
 unfoldable pub tidy : Network → NetworkState → Bool
 tidy N w =
-    padded 4 (N .common .monitors) (w .variables) && (eqb (length (w .calls)) 16 && (eqb (length (w .checkers)) 64
-    && (every (λ (c : Call). padded 8 (N .common .programs) (c .kept)) (w .calls) && (every isZeroCall (drop (w .opened) (w .calls)) && every isZeroChecker (drop (w .living) (w .checkers))))))
+    padded mostVariables (N .common .monitors) (w .variables) && (eqb (length (w .calls)) mostCalls && (eqb (length (w .checkers)) mostCheckers
+    && (every (λ (c : Call). padded mostValues (N .common .programs) (c .kept)) (w .calls) && (every isZeroCall (drop (w .opened) (w .calls)) && every isZeroChecker (drop (w .living) (w .checkers))))))
 
 -- what it shows is sound, and the rest is zero
 unfoldable pub soundState : Network → NetworkState → Bool

@@ -7,7 +7,7 @@ use lib.ListN.{length}
 use Rattle.sheet.specs.Table.{every}
 use Rattle.sheet.specs.Parts.{Network}
 use Rattle.step.specs.Lists.{any, keep, distinct, placeOf}
-use Rattle.step.specs.Calls.{Call, mostCalls}
+use Rattle.step.specs.Calls.{Call, mostCalls, mostArmed}
 use Rattle.step.specs.Verdicts.{verdictFits}
 use Rattle.network.specs.declared.Checker.{Checker}
 use Rattle.network.specs.Network.{State, templateIn, boundTo, ofNumber}
@@ -22,7 +22,7 @@ onCall N calls h = ltb (h .template) (length (N .templates)) && any (λ (c : Cal
 
 -- "at most four a call"
 unfoldable pub fourACall : List Call → List Checker → Bool
-fourACall calls l = every (λ (c : Call). leb (length (keep (boundTo (c .number)) l)) 4) calls
+fourACall calls l = every (λ (c : Call). leb (length (keep (boundTo (c .number)) l)) mostArmed) calls
 
 -- "its checkers stand in their calls' order": the places of their calls never fall
 unfoldable pub neverFalls : ℕ → List ℕ → Bool

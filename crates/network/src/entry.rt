@@ -7,24 +7,24 @@ use crate::sound::wide;
 use step::Call;
 
 // The values at entry of the living checker at a place of the row.
-pub(crate) fn entry_values(state: NetworkState, i: usize) -> [u32; 8]
+pub(crate) fn entry_values(state: NetworkState, i: usize) -> [u32; NetworkState::VALUES]
     ensures { λ r. ⌜ r ≡ entryValues state i ⌝ }
 {
     let calls = state.calls;
     let checkers = state.checkers;
     let opened = wide(state.opened);
-    if (i < wide(state.living)) & (i < 64) {
+    if (i < wide(state.living)) & (i < NetworkState::CHECKERS) {
         let c = checkers[i];
         let place = step::call_place(calls, opened, c.number);
-        if (place < opened) & (place < 16) {
+        if (place < opened) & (place < NetworkState::CALLS) {
             return kept_of(calls[place]);
         }
     }
-    [0; 8]
+    [0; NetworkState::VALUES]
 }
 
 // The values that a call keeps.
-fn kept_of(call: Call) -> [u32; 8]
+fn kept_of(call: Call) -> [u32; NetworkState::VALUES]
     ensures { λ r. ⌜ r ≡ call .kept ⌝ }
 {
     call.kept

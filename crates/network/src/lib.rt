@@ -52,13 +52,13 @@ pub struct Offered {
 }
 
 impl NetworkState {
-    pub const CALLS: usize = 16;
+    pub const CALLS: usize = step::CALLS;
 
     pub const CHECKERS: usize = 64;
 
-    pub const VARIABLES: usize = 4;
+    pub const VARIABLES: usize = condition::VARIABLES;
 
-    pub const VALUES: usize = 8;
+    pub const VALUES: usize = step::VALUES;
 
     // The state all of whose fields are zero, with no verdict.
     pub fn zero() -> NetworkState
@@ -138,7 +138,7 @@ pub fn run(s: &[u8], log: &[u8]) -> RunAnswer
 
 // The values at entry of the living checker at a place of the row: those that its call keeps. Zeros
 // where there is no such checker, or where its call is not open.
-pub fn entry_values(state: NetworkState, i: usize) -> [u32; 8]
+pub fn entry_values(state: NetworkState, i: usize) -> [u32; NetworkState::VALUES]
     ensures { λ r. ⌜ r ≡ entryValues state i ⌝ }
 {
     entry::entry_values(state, i)

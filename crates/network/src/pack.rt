@@ -8,9 +8,10 @@ ghost use lib.Dec.{ltb};
 ghost use lib.ListN.{length, take, drop};
 ghost use lib.Seq.{sets};
 ghost use Rattle.sheet.specs.Table.{every, fit};
+ghost use Rattle.step.specs.Calls.{mostCalls, mostArmed};
 ghost use Rattle.engine.specs.Walk.{entries, words};
 ghost use Rattle.network.specs.Grouped.{checker};
-ghost use Rattle.network.specs.Padded.{zeroChecker};
+ghost use Rattle.network.specs.Padded.{zeroChecker, mostCheckers};
 ghost use Rattle.network.specs.Packed.{runningOf, armsOf, ownOf, callWords, checkerIn, unpacked};
 use crate::Checker;
 use crate::NetworkState;
@@ -19,6 +20,10 @@ use crate::sound::wide;
 use crate::sound::word;
 use engine::Running;
 use engine::pack::Arms;
+use step::ARMED;
+
+// The most checkers that are bound to a call, as the engine has their count.
+const MOST_BOUND: u8 = ARMED as u8;
 
 // What stands beside the calls, checkers and variables.
 pub(crate) fn running(state: NetworkState) -> Running
@@ -36,7 +41,7 @@ pub(crate) fn running(state: NetworkState) -> Running
 // The open calls in a row, each with the templates of its checkers. These stand in their calls' order:
 // those of a call begin where those of the call before it end.
 pub(crate) fn row(state: NetworkState) -> [u32; 256]
-    requires { ⌜ (state .opened ≤ 16) × (state .living ≤ 64) ⌝ }
+    requires { ⌜ (state .opened ≤ mostCalls) × (state .living ≤ mostCheckers) ⌝ }
     ensures { λ r. ⌜ (entries (state .opened) r ≡ callWords state) × (every (λ c. ltb (c .number) 65536 && ltb (c .unit) 256) (take (state .opened) (state .calls)) ≡ true) × (length r ≡ 256) ⌝ }
 {
     let calls = state.calls;
@@ -58,11 +63,14 @@ pub(crate) fn row(state: NetworkState) -> [u32; 256]
 }
 
 // The first `living` checkers, each in a word.
-fn words_of(checkers: [Checker; 64], living: usize) -> [u32; 64]
-    requires { ⌜ living ≤ 64 ⌝ }
-    ensures { λ r. ⌜ (take living (map checkerIn r) ≡ take living checkers) × (length r ≡ 64) ⌝ }
+fn words_of(
+    checkers: [Checker; NetworkState::CHECKERS],
+    living: usize,
+) -> [u32; NetworkState::CHECKERS]
+    requires { ⌜ living ≤ mostCheckers ⌝ }
+    ensures { λ r. ⌜ (take living (map checkerIn r) ≡ take living checkers) × (length r ≡ mostCheckers) ⌝ }
 {
-    let mut out = [0u32; 64];
+    let mut out = [0u32; NetworkState::CHECKERS];
     let mut i = 0;
     while i < living {
         let c = checkers[i];
@@ -92,12 +100,12 @@ fn checker_in(w: u32) -> Checker
 // The templates of the checkers from a place on that are bound to a call, up to the first that is not:
 // at most four.
 fn bound_from(words: &[u32], from: usize, living: usize, number: u16) -> Arms
-    requires { ⌜ (from ≤ 64) × (living ≤ 64) × (living ≤ length (now words)) ⌝ }
+    requires { ⌜ (from ≤ mostCheckers) × (living ≤ mostCheckers) × (living ≤ length (now words)) ⌝ }
     ensures { λ r. ⌜ r ≡ armsOf (ownOf number (drop from (take living (map checkerIn (now (words .entry)))))) ⌝ }
 {
-    let mut numbers = [0u8; 4];
+    let mut numbers = [0u8; ARMED];
     let mut n = 0;
-    while n < 4 {
+    while n < ARMED {
         let at = from + n;
         if at < living {} else {
             return Arms {
@@ -115,24 +123,27 @@ fn bound_from(words: &[u32], from: usize, living: usize, number: u16) -> Arms
         numbers[n] = c.template;
         n += 1;
     }
-    Arms { count: 4, numbers }
+    Arms {
+        count: MOST_BOUND,
+        numbers,
+    }
 }
 
 // The state of such words, with so many values a call and so many variables.
 pub(crate) fn unpack(
     run: Running,
     row: &[u32; 256],
-    variables: &[u32; 4],
+    variables: &[u32; NetworkState::VARIABLES],
     programs: usize,
     monitors: usize,
 ) -> NetworkState
-    requires { ⌜ run .opened ≤ 16 ⌝ }
+    requires { ⌜ run .opened ≤ mostCalls ⌝ }
     ensures { λ r. ⌜ r ≡ unpacked programs monitors (words run (now (row .entry)) (now (variables .entry))) ⌝ }
 {
     let opened = wide(run.opened);
     let w = step::rows::eight(condition::front(&variables[..], monitors));
-    let mut calls = [step::rows::no_call(); 16];
-    let mut words = [0u32; 64];
+    let mut calls = [step::rows::no_call(); NetworkState::CALLS];
+    let mut words = [0u32; NetworkState::CHECKERS];
     let mut living = 0;
     let mut i = 0;
     while i < opened {
@@ -157,8 +168,13 @@ pub(crate) fn unpack(
 }
 
 // The word of a checker of a call for each armed template, behind the words of a row.
-fn append(words: &mut [u32; 64], living: usize, number: u16, arms: Arms) -> usize
-    requires { ⌜ (living ≤ 60) × (arms .count ≤ 4) ⌝ }
+fn append(
+    words: &mut [u32; NetworkState::CHECKERS],
+    living: usize,
+    number: u16,
+    arms: Arms,
+) -> usize
+    requires { ⌜ (living + mostArmed ≤ mostCheckers) × (arms .count ≤ mostArmed) ⌝ }
     ensures { λ r. ⌜ (map checkerIn (now (words .exit)) ≡ sets (map checkerIn (now (words .entry))) living (map (checker number) (take (arms .count) (arms .numbers)))) × (r ≡ living + length (take (arms .count) (arms .numbers))) ⌝ }
 {
     let count = wide(arms.count);
@@ -172,14 +188,14 @@ fn append(words: &mut [u32; 64], living: usize, number: u16, arms: Arms) -> usiz
 }
 
 // The checkers of the first `living` words.
-fn checkers_of(words: &[u32], living: usize) -> [Checker; 64]
-    requires { ⌜ (living ≤ 64) × (living ≤ length (now words)) ⌝ }
-    ensures { λ r. ⌜ r ≡ fit 64 zeroChecker (take living (map checkerIn (now (words .entry)))) ⌝ }
+fn checkers_of(words: &[u32], living: usize) -> [Checker; NetworkState::CHECKERS]
+    requires { ⌜ (living ≤ mostCheckers) × (living ≤ length (now words)) ⌝ }
+    ensures { λ r. ⌜ r ≡ fit mostCheckers zeroChecker (take living (map checkerIn (now (words .entry)))) ⌝ }
 {
     let mut out = [Checker {
         number: 0,
         template: 0,
-    }; 64];
+    }; NetworkState::CHECKERS];
     let mut i = 0;
     while i < living {
         out[i] = checker_in(words[i]);

@@ -5,17 +5,20 @@ ghost use mathlib.Core.List.{map};
 ghost use Prim.Native.Nat.{_<_};
 ghost use lib.Dec.{eqb, leb, ltb};
 ghost use lib.ListN.{length, take, drop};
+ghost use Rattle.condition.specs.Answer.{mostVariables};
 ghost use Rattle.sheet.specs.Table.{every};
 ghost use Rattle.sheet.specs.Decode.{networkOf};
 ghost use Rattle.sheet.specs.Reading.{reading, networkLayout};
 ghost use Rattle.sheet.specs.Answer.{headerOf};
 ghost use Rattle.step.specs.Lists.{keep, placeOf};
+ghost use Rattle.step.specs.Calls.{mostCalls, mostArmed};
 ghost use Rattle.network.specs.Sound.{neverFalls};
-ghost use Rattle.network.specs.Padded.{isZeroChecker, soundState};
+ghost use Rattle.network.specs.Padded.{mostCheckers, isZeroChecker, soundState};
 ghost use Rattle.network.specs.Walk.{tablesOf, onCallAt};
 use crate::Checker;
 use crate::NetworkState;
 use sheet::Header;
+use step::ARMED;
 use step::Call;
 
 // The numbers of an accepted network's header, and where its templates begin.
@@ -53,22 +56,23 @@ pub(crate) fn sound(s: &[u8], t: Tables, state: NetworkState) -> bool
         & (four_a_call(calls, opened, checkers, living)
             & in_order(calls, opened, checkers, living));
     let rest = step::outcomes::outcome_fits(h.bad, h.last, state.main, state.position, outcome);
-    ((opened <= 16) & (living <= 64)) & (tidy & ((state.main < h.states) & (row & (bound & rest))))
+    ((opened <= NetworkState::CALLS) & (living <= NetworkState::CHECKERS))
+        & (tidy & ((state.main < h.states) & (row & (bound & rest))))
 }
 
 // How many calls are open, in rows of so many places.
 fn opened_in(state: NetworkState) -> usize
-    ensures { λ r. ⌜ (r ≡ state .opened) × (length (state .variables) ≡ 4) × (length (state .calls) ≡ 16) × (length (state .checkers) ≡ 64) ⌝ }
+    ensures { λ r. ⌜ (r ≡ state .opened) × (length (state .variables) ≡ mostVariables) × (length (state .calls) ≡ mostCalls) × (length (state .checkers) ≡ mostCheckers) ⌝ }
 {
     wide(state.opened)
 }
 
 // Whether there is no checker from a place on.
-fn checkers_clear(checkers: [Checker; 64], from: usize) -> bool
+fn checkers_clear(checkers: [Checker; NetworkState::CHECKERS], from: usize) -> bool
     ensures { λ r. ⌜ r ≡ every isZeroChecker (drop from checkers) ⌝ }
 {
     let mut i = from;
-    while i < 64 {
+    while i < NetworkState::CHECKERS {
         let c = checkers[i];
         if (c.number == 0) & (c.template == 0) {} else {
             return false;
@@ -79,12 +83,12 @@ fn checkers_clear(checkers: [Checker; 64], from: usize) -> bool
 }
 
 // Whether the first `opened` calls are of units below U.
-fn units_below(calls: [Call; 16], opened: usize, units: u8) -> bool
+fn units_below(calls: [Call; NetworkState::CALLS], opened: usize, units: u8) -> bool
     ensures { λ r. ⌜ r ≡ every (λ c. ltb (c .unit) units) (take opened calls) ⌝ }
 {
     let mut i = 0;
     while i < opened {
-        if i < 16 {
+        if i < NetworkState::CALLS {
             let c = calls[i];
             if c.unit < units {} else {
                 return false;
@@ -102,16 +106,16 @@ fn on_calls(
     s: &[u8],
     at: u16,
     n: u8,
-    calls: [Call; 16],
+    calls: [Call; NetworkState::CALLS],
     opened: usize,
-    checkers: [Checker; 64],
+    checkers: [Checker; NetworkState::CHECKERS],
     living: usize,
 ) -> bool
     ensures { λ r. ⌜ r ≡ every (onCallAt (now (s .entry)) at n (take opened calls)) (take living checkers) ⌝ }
 {
     let mut i = 0;
     while i < living {
-        if i < 64 {
+        if i < NetworkState::CHECKERS {
             if on_call(s, at, n, calls, opened, checkers[i]) {} else {
                 return false;
             }
@@ -123,7 +127,14 @@ fn on_calls(
     true
 }
 
-fn on_call(s: &[u8], at: u16, n: u8, calls: [Call; 16], opened: usize, c: Checker) -> bool
+fn on_call(
+    s: &[u8],
+    at: u16,
+    n: u8,
+    calls: [Call; NetworkState::CALLS],
+    opened: usize,
+    c: Checker,
+) -> bool
     ensures { λ r. ⌜ r ≡ onCallAt (now (s .entry)) at n (take opened calls) c ⌝ }
 {
     let t = sheet::template_at(s, long(at) + 2 * word(c.template));
@@ -132,14 +143,19 @@ fn on_call(s: &[u8], at: u16, n: u8, calls: [Call; 16], opened: usize, c: Checke
 }
 
 // Whether at most four of the first `living` checkers are bound to each open call.
-fn four_a_call(calls: [Call; 16], opened: usize, checkers: [Checker; 64], living: usize) -> bool
-    ensures { λ r. ⌜ r ≡ every (λ c. leb (length (keep (λ h. eqb (h .number) (c .number)) (take living checkers))) 4) (take opened calls) ⌝ }
+fn four_a_call(
+    calls: [Call; NetworkState::CALLS],
+    opened: usize,
+    checkers: [Checker; NetworkState::CHECKERS],
+    living: usize,
+) -> bool
+    ensures { λ r. ⌜ r ≡ every (λ c. leb (length (keep (λ h. eqb (h .number) (c .number)) (take living checkers))) mostArmed) (take opened calls) ⌝ }
 {
     let mut i = 0;
     while i < opened {
-        if i < 16 {
+        if i < NetworkState::CALLS {
             let c = calls[i];
-            if bound_to(checkers, living, c.number) <= 4 {} else {
+            if bound_to(checkers, living, c.number) <= ARMED {} else {
                 return false;
             }
         } else {
@@ -151,13 +167,13 @@ fn four_a_call(calls: [Call; 16], opened: usize, checkers: [Checker; 64], living
 }
 
 // How many of the first `living` checkers are bound to a call.
-fn bound_to(checkers: [Checker; 64], living: usize, number: u16) -> usize
+fn bound_to(checkers: [Checker; NetworkState::CHECKERS], living: usize, number: u16) -> usize
     ensures { λ r. ⌜ r ≡ length (keep (λ h. eqb (h .number) number) (take living checkers)) ⌝ }
 {
     let mut i = 0;
     let mut count = 0;
     while i < living {
-        if i < 64 {
+        if i < NetworkState::CHECKERS {
             let c = checkers[i];
             if c.number == number {
                 count += 1;
@@ -171,13 +187,18 @@ fn bound_to(checkers: [Checker; 64], living: usize, number: u16) -> usize
 }
 
 // Whether the calls of the first `living` checkers never stand before those of earlier checkers.
-fn in_order(calls: [Call; 16], opened: usize, checkers: [Checker; 64], living: usize) -> bool
+fn in_order(
+    calls: [Call; NetworkState::CALLS],
+    opened: usize,
+    checkers: [Checker; NetworkState::CHECKERS],
+    living: usize,
+) -> bool
     ensures { λ r. ⌜ r ≡ neverFalls 0 (map (λ h. placeOf (λ c. eqb (c .number) (h .number)) (take opened calls)) (take living checkers)) ⌝ }
 {
     let mut i = 0;
     let mut last = 0;
     while i < living {
-        if i < 64 {
+        if i < NetworkState::CHECKERS {
             let c = checkers[i];
             let place = step::call_place(calls, opened, c.number);
             if last <= place {} else {

@@ -32,6 +32,14 @@ openFor e calls = any (λ c. eqb (c .number) (e .number) && eqb (c .unit) (e .un
 abbrev pub mostCalls : ℕ
 mostCalls = 16
 
+-- "program variables P, 0-8": an event has so many values, and a call keeps as many
+abbrev pub mostValues : ℕ
+mostValues = 8
+
+-- "at most four armed triples"; for a network "at most four a call"
+abbrev pub mostArmed : ℕ
+mostArmed = 4
+
 abbrev pub lastPosition : ℕ
 lastPosition = 4294967295
 

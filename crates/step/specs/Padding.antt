@@ -7,12 +7,13 @@ use lib.ListN.{length, take, drop, replicate}
 use Rattle.sheet.specs.Table.{every, fit}
 use Rattle.step.specs.declared.Call.{Call}
 use Rattle.step.specs.Calls as Calls
+use Rattle.step.specs.Calls.{mostValues}
 
 abbrev pub zeroCall : Call
-zeroCall = record { number = 0; unit = 0; kept = replicate 8 0 }
+zeroCall = record { number = 0; unit = 0; kept = replicate mostValues 0 }
 
 abbrev pub padCall : Calls.Call → Call
-padCall c = record { number = c .number; unit = c .unit; kept = fit 8 0 (c .kept) }
+padCall c = record { number = c .number; unit = c .unit; kept = fit mostValues 0 (c .kept) }
 
 -- a call without its padding
 abbrev pub unpad : ℕ → Call → Calls.Call

@@ -10,6 +10,14 @@ ghost use Rattle.step.specs.Lists.{any, placeOf};
 pub mod outcomes;
 pub mod rows;
 
+// The most calls that are open at once, the most values of an event, and the most numbers armed for a
+// call.
+pub const CALLS: usize = 16;
+
+pub const VALUES: usize = 8;
+
+pub const ARMED: usize = 4;
+
 // Why a verdict is complete: the bad state, the lowest failing triple, or both.
 pub enum Cause {
     BadState(u8),
@@ -48,16 +56,16 @@ pub enum RunAnswer {
 pub struct Call {
     pub number: u16,
     pub unit: u8,
-    pub kept: [u32; 8],
+    pub kept: [u32; VALUES],
 }
 
 // Where the call of a number stands among the first `opened` of sixteen, or `opened`.
-pub fn call_place(calls: [Call; 16], opened: usize, number: u16) -> usize
+pub fn call_place(calls: [Call; CALLS], opened: usize, number: u16) -> usize
     ensures { λ r. ⌜ r ≡ placeOf (λ c. eqb (c .number) number) (take opened calls) ⌝ }
 {
     let mut i = 0;
     while i < opened {
-        if i < 16 {
+        if i < CALLS {
             let c = calls[i];
             if c.number == number {
                 return i;
@@ -71,12 +79,12 @@ pub fn call_place(calls: [Call; 16], opened: usize, number: u16) -> usize
 }
 
 // Whether a call of a number is open for a unit among the first `opened` of sixteen.
-pub fn call_open_for(calls: [Call; 16], opened: usize, number: u16, unit: u8) -> bool
+pub fn call_open_for(calls: [Call; CALLS], opened: usize, number: u16, unit: u8) -> bool
     ensures { λ r. ⌜ r ≡ any (λ c. eqb (c .number) number && eqb (c .unit) unit) (take opened calls) ⌝ }
 {
     let mut i = 0;
     while i < opened {
-        if i < 16 {
+        if i < CALLS {
             let c = calls[i];
             if (c.number == number) & (c.unit == unit) {
                 return true;

@@ -8,8 +8,11 @@ ghost use lib.Dec.{eqb};
 ghost use lib.ListN.{length, take, drop};
 ghost use Rattle.sheet.specs.Table.{every, fit};
 ghost use Rattle.step.specs.Lists.{distinct, placeOf};
+ghost use Rattle.step.specs.Calls.{mostValues};
 ghost use Rattle.step.specs.Padding.{zeroCall, clear, padded, isZeroCall};
+use crate::CALLS;
 use crate::Call;
+use crate::VALUES;
 
 // The place of no call.
 pub fn no_call() -> Call
@@ -18,18 +21,18 @@ pub fn no_call() -> Call
     Call {
         number: 0,
         unit: 0,
-        kept: [0; 8],
+        kept: [0; VALUES],
     }
 }
 
 // Up to eight values, zeros behind them.
-pub fn eight(values: &[u32]) -> [u32; 8]
-    ensures { λ r. ⌜ r ≡ fit 8 0 (now (values .entry)) ⌝ }
+pub fn eight(values: &[u32]) -> [u32; VALUES]
+    ensures { λ r. ⌜ r ≡ fit mostValues 0 (now (values .entry)) ⌝ }
 {
-    let mut out = [0u32; 8];
+    let mut out = [0u32; VALUES];
     let mut i = 0;
     while i < values.len() {
-        if i < 8 {
+        if i < VALUES {
             out[i] = values[i];
         } else {
             return out;
@@ -55,7 +58,7 @@ pub fn clear_from(values: &[u32], from: usize) -> bool
 
 // Whether a call keeps zeros from a value's number on.
 fn keeps_clear(call: Call, from: usize) -> bool
-    ensures { λ r. ⌜ (r ≡ clear from (call .kept)) × (length (call .kept) ≡ 8) ⌝ }
+    ensures { λ r. ⌜ (r ≡ clear from (call .kept)) × (length (call .kept) ≡ mostValues) ⌝ }
 {
     let k = call.kept;
     zero_from(0 < from, k[0])
@@ -76,19 +79,19 @@ fn zero_from(first: bool, n: u32) -> bool
 
 // Whether it is the place of no call.
 fn is_no_call(call: Call) -> bool
-    ensures { λ r. ⌜ (r ≡ isZeroCall call) × (length (call .kept) ≡ 8) ⌝ }
+    ensures { λ r. ⌜ (r ≡ isZeroCall call) × (length (call .kept) ≡ mostValues) ⌝ }
 {
     let clear = keeps_clear(call, 0);
     (call.number == 0) & ((call.unit == 0) & clear)
 }
 
 // Whether the first `opened` calls keep zeros from a value's number on.
-pub fn kept_clear(calls: [Call; 16], opened: usize, from: usize) -> bool
-    ensures { λ r. ⌜ r ≡ every (λ c. padded 8 from (c .kept)) (take opened calls) ⌝ }
+pub fn kept_clear(calls: [Call; CALLS], opened: usize, from: usize) -> bool
+    ensures { λ r. ⌜ r ≡ every (λ c. padded mostValues from (c .kept)) (take opened calls) ⌝ }
 {
     let mut i = 0;
     while i < opened {
-        if i < 16 {
+        if i < CALLS {
             if keeps_clear(calls[i], from) {} else {
                 return false;
             }
@@ -101,11 +104,11 @@ pub fn kept_clear(calls: [Call; 16], opened: usize, from: usize) -> bool
 }
 
 // Whether there is no call from a place on.
-pub fn calls_clear(calls: [Call; 16], from: usize) -> bool
-    ensures { λ r. ⌜ r ≡ every (λ c. padded 8 0 (c .kept) && isZeroCall c) (drop from calls) ⌝ }
+pub fn calls_clear(calls: [Call; CALLS], from: usize) -> bool
+    ensures { λ r. ⌜ r ≡ every (λ c. padded mostValues 0 (c .kept) && isZeroCall c) (drop from calls) ⌝ }
 {
     let mut i = from;
-    while i < 16 {
+    while i < CALLS {
         if is_no_call(calls[i]) {} else {
             return false;
         }
@@ -115,7 +118,7 @@ pub fn calls_clear(calls: [Call; 16], from: usize) -> bool
 }
 
 // Whether the first `opened` calls have different numbers.
-pub fn numbers_distinct(calls: [Call; 16], opened: usize) -> bool
+pub fn numbers_distinct(calls: [Call; CALLS], opened: usize) -> bool
     ensures { λ r. ⌜ r ≡ distinct (map (λ c. c .number) (take opened calls)) ⌝ }
 {
     let numbers = numbers_of(calls);
@@ -123,12 +126,12 @@ pub fn numbers_distinct(calls: [Call; 16], opened: usize) -> bool
 }
 
 // The numbers of the calls: they are looked through without the rest.
-fn numbers_of(calls: [Call; 16]) -> [u32; 16]
+fn numbers_of(calls: [Call; CALLS]) -> [u32; CALLS]
     ensures { λ r. ⌜ r ≡ map (λ c. c .number) calls ⌝ }
 {
-    let mut out = [0u32; 16];
+    let mut out = [0u32; CALLS];
     let mut i = 0;
-    while i < 16 {
+    while i < CALLS {
         let c = calls[i];
         out[i] = c.number as u32;
         i += 1;
