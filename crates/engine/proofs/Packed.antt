@@ -19,9 +19,9 @@ use Rattle.step.specs.declared.Call.{Call}
 use Rattle.step.specs.Calls.{isEntry}
 use Rattle.step.specs.Runs.{offered}
 use Rattle.step.specs.Padding.{zeroCall, padCall}
-use Rattle.step.proofs.Keeping.{every-keep}
-use Rattle.step.proofs.Rooms as Rooms
-use Rattle.step.proofs.Rooms.{map-same}
+use Rattle.step.proofs.OnLists.Keeping.{every-keep}
+use Rattle.step.proofs.OnLists.Rooms as Rooms
+use Rattle.step.proofs.OnLists.Rooms.{map-same}
 use Rattle.engine.specs.declared.pack.Arms.{Arms}
 use Rattle.engine.specs.Packed.{wordsOf, putAt, callIn, armsIn, callAt, armsAt}
 use Rattle.engine.specs.Machine.{Machine, Armed, State, ofNumber, entered, exited, refusal, offer}

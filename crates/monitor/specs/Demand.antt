@@ -54,7 +54,7 @@ Clear S R w = (u v : List Event) → w ≡ u ++ v → Counterexample S R u → �
 -- breaks one.
 pub record Finds (S : Sheet) (R : Leading) (w : List Event) (position : ℕ) (state triple : Option ℕ) : Type 0 where
   pub counterexample : Counterexample S R w
-  pub length : position ≡ length w
+  pub counted : position ≡ length w
   pub to : Configuration
   pub leads : R w to
   pub bad : state ≡ badState (S .common .bad) (to .main)

@@ -16,8 +16,8 @@ use Rattle.sheet.specs.Answer.{recordOf}
 use Rattle.sheet.proofs.Tables.{length-records, table-step}
 use Rattle.step.specs.Calls.{eventOf}
 use Rattle.step.specs.Answers.{answerPaper, answerOf}
-use Rattle.step.proofs.Following.{log-length, log-filled}
-use Rattle.step.proofs.Rooms.{take-fitted}
+use Rattle.step.proofs.OnEvents.Following.{log-length, log-filled}
+use Rattle.step.proofs.OnLists.Rooms.{take-fitted}
 use Rattle.network.specs.declared.NetworkState.{NetworkState}
 use Rattle.network.specs.declared.Offered.{Offered}
 use Rattle.network.specs.Padded.{freshOf}

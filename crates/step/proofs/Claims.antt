@@ -8,7 +8,7 @@ use Rattle.step.specs.declared.RunAnswer.the-variants as run
 use Rattle.step.specs.Verdicts.{causeState, causeTriple}
 use Rattle.step.specs.Answers.{answerPaper, runPaper}
 use Rattle.step.specs.Claims.{Told}
-use Rattle.step.proofs.Causes.{verdict-same}
+use Rattle.step.proofs.OnEvents.Causes.{verdict-same}
 
 told-answer : Injective answerPaper
 told-answer answer.Taken answer.Taken e = refl

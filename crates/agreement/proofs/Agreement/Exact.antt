@@ -15,8 +15,8 @@ use Rattle.sheet.specs.Log.{Event}
 use Rattle.sheet.proofs.Tables.{and-parts}
 use Rattle.sheet.proofs.Tests.{and-iff, not-iff}
 use Rattle.step.specs.Lists.{Among, first, keep, any, distinct}
-use Rattle.step.proofs.Lists.{any-map, none-some, kept-passes, passes-kept}
-use Rattle.step.proofs.Keeping.{every-among, keep-map, keep-both}
+use Rattle.step.proofs.OnLists.Lists.{any-map, none-some, kept-passes, passes-kept}
+use Rattle.step.proofs.OnLists.Keeping.{every-among, keep-map, keep-both}
 use Rattle.monitor.specs.Monitor as Monitor
 use Rattle.monitor.specs.Monitor.{Armed, ofNumber, initial}
 use Rattle.monitor.specs.Sound.{rising}

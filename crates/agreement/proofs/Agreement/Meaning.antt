@@ -13,8 +13,8 @@ use Rattle.step.specs.Moves.{Configuration}
 use Rattle.step.specs.Calls.{refusals, lowest}
 use Rattle.step.specs.Verdicts.{isJudged, causeState, causeTriple}
 use Rattle.step.specs.Answers.{answerOf}
-use Rattle.step.proofs.Lists.{none-some}
-use Rattle.step.proofs.Runs.{offered-answer}
+use Rattle.step.proofs.OnLists.Lists.{none-some}
+use Rattle.step.proofs.OnEvents.Runs.{offered-answer}
 use Rattle.monitor.specs.Monitor as Monitor
 use Rattle.monitor.specs.Monitor.{Armed, State, initial, refusal, offer, armedBy}
 use Rattle.monitor.specs.Published.{inOrder}

@@ -10,7 +10,7 @@ use Rattle.sheet.proofs.Tests.{and-iff, not-iff}
 use Rattle.step.specs.Lists.{Among, first, distinct}
 use Rattle.step.specs.Calls.{Call}
 use Rattle.step.specs.Answers.{Response}
-use Rattle.step.proofs.Lists.{any-map}
+use Rattle.step.proofs.OnLists.Lists.{any-map}
 use Rattle.monitor.specs.Monitor as Monitor
 use Rattle.monitor.specs.Monitor.{Armed}
 use Rattle.network.specs.Network.{ofNumber}

@@ -21,7 +21,7 @@ use Rattle.sheet.specs.Reading.{guard, precondition, between, lentIn, condition
 use Rattle.sheet.proofs.Tests.{and-iff, leb-iff, eqb-iff, not-iff}
 use Rattle.sheet.proofs.Tables.{and-parts, and-both, every-append, every-map, every-weaker, every-or}
 use Rattle.sheet.proofs.Accepted.{condition-formed}
-use Rattle.step.proofs.Keeping.{every-among, among-every}
+use Rattle.step.proofs.OnLists.Keeping.{every-among, among-every}
 use Rattle.translation.proofs.Networks.{every-two}
 use Rattle.translation.proofs.Cards.Joining.{length-joined}
 use Rattle.translation.proofs.Cards.Guarding.{length-guarded}

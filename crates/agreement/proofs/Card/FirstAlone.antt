@@ -15,7 +15,7 @@ use Rattle.sheet.specs.declared.Transition.{Transition}
 use Rattle.sheet.specs.Parts.{Common, Paired, Network}
 use Rattle.sheet.specs.Reading.{lentIn, conditionIn, formed}
 use Rattle.step.specs.Lists.{keep, any}
-use Rattle.step.proofs.Turns.{any-append}
+use Rattle.step.proofs.OnLists.Turns.{any-append}
 use Rattle.step.specs.Meets.{meets}
 use Rattle.translation.specs.Card.{isOf, joinedText, joinedFrom, guardedBy, guardedFrom, joinedConditions, withConditions}
 use Rattle.agreement.specs.Card.{holdsFor}

@@ -17,7 +17,7 @@ use Rattle.sheet.specs.Reading.{lentIn, conditionIn, formed}
 use Rattle.sheet.proofs.Accepted.{condition-formed}
 use Rattle.step.specs.Lists.{Among, any}
 use Rattle.step.specs.Meets.{meets}
-use Rattle.step.proofs.Bridge.{parses}
+use Rattle.step.proofs.OnEvents.Bridge.{parses}
 use Rattle.translation.specs.Card.{isOf, joinedText}
 
 -- Some bytes are those of a tree that names what is lent.

@@ -21,8 +21,8 @@ use Rattle.sheet.proofs.Accepted.{accepted}
 use Rattle.step.specs.Lists.{Among, first, keep}
 use Rattle.step.specs.Meets.{meets, acted}
 use Rattle.step.specs.Moves.{Configuration, seen, enabled, after, moved}
-use Rattle.step.proofs.Lists.{headOf, first-keep, first-passes}
-use Rattle.step.proofs.Keeping.{keep-map, keep-same, every-among}
+use Rattle.step.proofs.OnLists.Lists.{headOf, first-keep, first-passes}
+use Rattle.step.proofs.OnLists.Keeping.{keep-map, keep-same, every-among}
 use Rattle.engine.proofs.MachineCarried.Carried.{image, first-image}
 use Rattle.network.specs.declared.Checker.{Checker}
 use Rattle.network.specs.Network.{templateIn, pairsIn, created}

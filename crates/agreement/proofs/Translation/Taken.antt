@@ -18,9 +18,9 @@ use Rattle.step.specs.Lists.{first, keep, numbers}
 use Rattle.step.specs.Meets.{meets}
 use Rattle.step.specs.Moves.{Configuration, seen, enabled, after, moved}
 use Rattle.step.specs.Calls.{isEntry}
-use Rattle.step.proofs.Bridge.{noTransition, first-same}
-use Rattle.step.proofs.Keeping.{keep-same}
-use Rattle.step.proofs.Lists.{none-some, first-passes}
+use Rattle.step.proofs.OnEvents.Bridge.{noTransition, first-same}
+use Rattle.step.proofs.OnLists.Keeping.{keep-same}
+use Rattle.step.proofs.OnLists.Lists.{none-some, first-passes}
 use Rattle.engine.proofs.MachineCarried.Carried.{image, first-image}
 use Rattle.translation.specs.Translate.{pairsFrom, pairsOf, copied, back, joined, added, extended, translate}
 use Rattle.monitor.specs.Monitor.{arms, armedBy}

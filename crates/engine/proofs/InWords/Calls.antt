@@ -13,9 +13,9 @@ use Rattle.sheet.specs.Log.{Event}
 use Rattle.sheet.proofs.Tests.{and-iff, not-iff}
 use Rattle.step.specs.Lists.{any, keep, distinct, placeOf}
 use Rattle.step.specs.Calls.{Call, openNumber, openFor}
-use Rattle.step.proofs.Lists.{any-map}
-use Rattle.step.proofs.Keeping.{keep-map, all-stay}
-use Rattle.step.proofs.Searching.{any-place}
+use Rattle.step.proofs.OnLists.Lists.{any-map}
+use Rattle.step.proofs.OnLists.Keeping.{keep-map, all-stay}
+use Rattle.step.proofs.OnLists.Searching.{any-place}
 use Rattle.engine.specs.Machine.{Armed, ofNumber}
 use Rattle.engine.specs.Walk.{entries, rowWith, rowWithout}
 use Rattle.engine.specs.Showing.{callOf, armedOf}

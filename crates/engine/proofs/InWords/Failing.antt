@@ -11,7 +11,7 @@ use lib.Seq.{getD-take, getD-drop, take-all, take-take}
 use Rattle.condition.specs.Meaning.{environment}
 use Rattle.step.specs.Lists.{keep}
 use Rattle.step.specs.Walk.{leastOf}
-use Rattle.step.proofs.Keeping.{least-end, least-here, least-not-here}
+use Rattle.step.proofs.OnLists.Keeping.{least-end, least-here, least-not-here}
 use Rattle.engine.specs.Plan.{programsIn, postOf}
 use Rattle.engine.specs.Walk.{holdsBy, armedAt, keptAt, lowIn}
 

@@ -9,7 +9,7 @@ use borrow.Author.Tests.{eq-eqb, ne-eqb}
 use lib.Dec.{eqb}
 use lib.ListN.{length, getD, set, take, drop, length-set, length-take, drop-of-length-le}
 use lib.Seq.{sets, slice, drop-cons, slice-cons, take-set-lt, drop-set-lt}
-use Rattle.step.proofs.Searching.{Passed, passed-none, passed-end, passed-found, passed-more}
+use Rattle.step.proofs.OnLists.Searching.{Passed, passed-none, passed-end, passed-found, passed-more}
 use Rattle.engine.specs.Walk.{entries, placeIn, rowWithout}
 use Rattle.engine.proofs.InWords.Entries.{length-entries, word-at}
 

@@ -21,8 +21,8 @@ use Rattle.sheet.proofs.Tables.{and-assoc}
 use Rattle.step.specs.Lists.{first}
 use Rattle.step.specs.Meets.{meets, acted}
 use Rattle.step.specs.Moves.{Configuration, seen, enabled, after, moved}
-use Rattle.step.proofs.Bridge.{noTransition, first-same, guard-read, action-acts}
-use Rattle.step.proofs.Rooms.{take-fitted}
+use Rattle.step.proofs.OnEvents.Bridge.{noTransition, first-same, guard-read, action-acts}
+use Rattle.step.proofs.OnLists.Rooms.{take-fitted}
 use Rattle.engine.specs.Plan.{programsIn, cellOf, keyOf, firstOf, guardOf, gapOf}
 use Rattle.engine.specs.Prepared.{textPlace, actionPlace}
 use Rattle.engine.specs.Walk.{holdsBy, chain, otherwise, foundIn, mainAfter, variablesAfter, eightOf}

@@ -24,10 +24,10 @@ use Rattle.sheet.proofs.Tables.{every-map}
 use Rattle.step.specs.Lists.{Among, first, keep}
 use Rattle.step.specs.Meets.{meets}
 use Rattle.step.specs.Moves.{Configuration, seen, enabled}
-use Rattle.step.proofs.Lists.{first-passes, kept-passes}
-use Rattle.step.proofs.Keeping.{among-at, among-every, keep-same, length-keep}
-use Rattle.step.proofs.Bridge.{noPaired, full-read}
-use Rattle.step.proofs.Moving.{network-good, moved-main}
+use Rattle.step.proofs.OnLists.Lists.{first-passes, kept-passes}
+use Rattle.step.proofs.OnLists.Keeping.{among-at, among-every, keep-same, length-keep}
+use Rattle.step.proofs.OnEvents.Bridge.{noPaired, full-read}
+use Rattle.step.proofs.OnEvents.Moving.{network-good, moved-main}
 use Rattle.engine.specs.Machines.{ofNetwork, pairsOf}
 use Rattle.engine.specs.Plan.{cellOf, firstOf, guardOf, gapOf, candidateOf, askedOf, numberOf, behindOf}
 use Rattle.engine.specs.Prepared.{textPlace, networkPlan}

@@ -23,9 +23,9 @@ use Rattle.sheet.proofs.Tests.{and-iff, eqb-iff}
 use Rattle.step.specs.Lists.{first, keep, numbers}
 use Rattle.step.specs.Meets.{meets}
 use Rattle.step.specs.Moves.{Configuration, seen, enabled}
-use Rattle.step.proofs.Lists.{kept-passes}
-use Rattle.step.proofs.Bridge.{noTransition, full-read}
-use Rattle.step.proofs.Moving.{sheet-good, moved-main}
+use Rattle.step.proofs.OnLists.Lists.{kept-passes}
+use Rattle.step.proofs.OnEvents.Bridge.{noTransition, full-read}
+use Rattle.step.proofs.OnEvents.Moving.{sheet-good, moved-main}
 use Rattle.engine.specs.Machines.{ofSheet, noTriple}
 use Rattle.engine.specs.Plan.{cellOf, pairedIn, candidateOf, askedOf, numberOf, behindOf}
 use Rattle.engine.specs.Prepared.{sheetPlan}

@@ -24,7 +24,7 @@ use Rattle.sheet.proofs.Accepted.{Accepted, bounds, tables-end}
 use Rattle.sheet.proofs.Placed.{conditionPlaces, actionPlaces, condition-there}
 use Rattle.sheet.proofs.Tables.{length-records}
 use Rattle.step.specs.Walk.{actedAt}
-use Rattle.step.proofs.Lists.{none-some}
+use Rattle.step.proofs.OnLists.Lists.{none-some}
 use Rattle.engine.specs.Prepared.{startOf, textPlace, actionPlace}
 use Rattle.engine.specs.Walk.{holdsBy, performedAt}
 

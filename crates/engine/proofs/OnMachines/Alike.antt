@@ -12,8 +12,8 @@ use Rattle.step.specs.Moves.{Configuration, moved}
 use Rattle.step.specs.Calls.{isEntry, refusals}
 use Rattle.step.specs.Verdicts.{verdict}
 use Rattle.step.specs.Runs.{Offered, Ran, offered, unlessJudged, unlessRefusedAt, runFrom}
-use Rattle.step.proofs.Keeping.{keep-same}
-use Rattle.step.proofs.Refusing.{free}
+use Rattle.step.proofs.OnLists.Keeping.{keep-same}
+use Rattle.step.proofs.OnEvents.Refusing.{free}
 use Rattle.engine.specs.Machine.{Machine, Armed, State, fresh, fails, failing, ofNumber, entered, exited, refusal, offer, run}
 
 -- The same start, moves and judging; the same numbers armed at an entry, in a state and for a unit that are declared: an exit arms none, whatever `arming` says.

@@ -14,11 +14,11 @@ use Rattle.step.specs.Lists.{any, distinct}
 use Rattle.step.specs.Calls.{Call, isEntry}
 use Rattle.step.specs.Verdicts.{isJudged}
 use Rattle.step.specs.Runs.{offered}
-use Rattle.step.proofs.Lists.{any-map}
-use Rattle.step.proofs.Keeping.{every-keep, length-keep, distinct-keep, distinct-more}
-use Rattle.step.proofs.Moving.{moved-variables}
-use Rattle.step.proofs.Refusing as Refusing
-use Rattle.step.proofs.Refusing.{entry-room}
+use Rattle.step.proofs.OnLists.Lists.{any-map}
+use Rattle.step.proofs.OnLists.Keeping.{every-keep, length-keep, distinct-keep, distinct-more}
+use Rattle.step.proofs.OnEvents.Moving.{moved-variables}
+use Rattle.step.proofs.OnEvents.Refusing as Refusing
+use Rattle.step.proofs.OnEvents.Refusing.{entry-room}
 use Rattle.engine.specs.Machine.{Machine, Armed, State, ofNumber, fresh, entered, exited, refusal, offer}
 use Rattle.engine.specs.Showing.{Steady, Carries}
 

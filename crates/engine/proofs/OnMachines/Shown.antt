@@ -21,13 +21,13 @@ use Rattle.step.specs.Calls.{Call, isEntry, lastPosition, refusals, lowest}
 use Rattle.step.specs.Verdicts.{verdict, isJudged, verdictIn, outcomeOf}
 use Rattle.step.specs.Runs.{offered}
 use Rattle.step.specs.Walk.{numberIn, leastOf}
-use Rattle.step.proofs.Lists.{any-map, first-passes, kept-passes}
-use Rattle.step.proofs.Moving.{moved-variables}
-use Rattle.step.proofs.Refusing.{refusalBy, refusal-asked, entry-room, exit-open}
-use Rattle.step.proofs.Refusing as Refusing
-use Rattle.step.proofs.Rooms.{verdict-outcome, take-fitted, length-fit}
-use Rattle.step.proofs.Searching.{any-place}
-use Rattle.step.proofs.Keeping.{every-among, keep-same, place-map, image-at, first-place, number-least}
+use Rattle.step.proofs.OnLists.Lists.{any-map, first-passes, kept-passes}
+use Rattle.step.proofs.OnEvents.Moving.{moved-variables}
+use Rattle.step.proofs.OnEvents.Refusing.{refusalBy, refusal-asked, entry-room, exit-open}
+use Rattle.step.proofs.OnEvents.Refusing as Refusing
+use Rattle.step.proofs.OnLists.Rooms.{verdict-outcome, take-fitted, length-fit}
+use Rattle.step.proofs.OnLists.Searching.{any-place}
+use Rattle.step.proofs.OnLists.Keeping.{every-among, keep-same, place-map, image-at, first-place, number-least}
 use Rattle.engine.specs.declared.Running.{Running}
 use Rattle.engine.specs.Machine.{Machine, Armed, State, fails, failing, ofNumber, entered, exited, refusal, offer}
 use Rattle.engine.specs.Plan.{unitsIn, programsIn, monitorsIn, badIn, cellOf, firstOf, candidateOf, postOf}

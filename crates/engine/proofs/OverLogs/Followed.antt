@@ -26,8 +26,8 @@ use Rattle.step.specs.Verdicts.{outcomeOf, verdictIn}
 use Rattle.step.specs.Runs.{Offered}
 use Rattle.step.specs.Answers as words
 use Rattle.step.specs.Answers.{runPaper, ranAnswer}
-use Rattle.step.proofs.Rooms.{four, behind-fit, length-fit}
-use Rattle.step.proofs.Following.{Engine, Works, Following, follow-refused, follow-violated, follow-next}
+use Rattle.step.proofs.OnLists.Rooms.{four, behind-fit, length-fit}
+use Rattle.step.proofs.OnEvents.Following.{Engine, Works, Following, follow-refused, follow-violated, follow-next}
 use Rattle.engine.specs.declared.Running.{Running}
 use Rattle.engine.specs.declared.Given.{Given}
 use Rattle.engine.specs.declared.Advanced.{Advanced}

@@ -20,8 +20,8 @@ use Rattle.sheet.proofs.Tables.{length-records}
 use Rattle.sheet.proofs.Limits.{sheet-longest}
 use Rattle.step.specs.Runs.{runFrom}
 use Rattle.step.specs.Answers.{Ending, refused, unlessRefused, ranAnswer}
-use Rattle.step.proofs.Rooms.{take-fitted}
-use Rattle.step.proofs.Runs.{unread-run}
+use Rattle.step.proofs.OnLists.Rooms.{take-fitted}
+use Rattle.step.proofs.OnEvents.Runs.{unread-run}
 use Rattle.engine.specs.Machine as Machine
 use Rattle.engine.specs.Machine.{State, fresh, offer}
 use Rattle.engine.specs.Machines.{ofSheet, ofNetwork}

@@ -24,7 +24,7 @@ use Rattle.sheet.proofs.Tables.{length-records, length-starts, table-at, table-
 use Rattle.sheet.proofs.Readers.Loops.{byte-past}
 use Rattle.step.specs.Lists.{numbers}
 use Rattle.step.specs.Walk.{baseForm}
-use Rattle.step.proofs.Keeping.{image-at}
+use Rattle.step.proofs.OnLists.Keeping.{image-at}
 use Rattle.engine.specs.Plan as Plan
 use Rattle.engine.specs.Plan.{absent, unitsIn, programsIn, monitorsIn, badIn, pairedIn, cellOf, askedOf, numberOf, behindOf, postOf}
 use Rattle.engine.specs.Walk.{chain}

@@ -21,7 +21,7 @@ use Rattle.sheet.proofs.Limits.{sheet-longest, mostNetwork, network-longest, ta
 use Rattle.sheet.proofs.Tables.{length-starts}
 use Rattle.step.specs.Answers.{unlessTaken}
 use Rattle.step.specs.Walk.{baseForm}
-use Rattle.step.proofs.Rooms.{take-fitted}
+use Rattle.step.proofs.OnLists.Rooms.{take-fitted}
 use Rattle.engine.specs.Plan.{planSize, absent}
 use Rattle.engine.specs.Prepared.{linked, withTransitions, withTriple, postWords, headWords, transitionPlaces, empty, sheetInto, networkInto}
 

@@ -6,7 +6,7 @@ use Rattle.sheet.specs.Bytes.{byte}
 use Rattle.sheet.specs.Log.{eventsOf}
 use Rattle.sheet.specs.declared.Header.{Header}
 use Rattle.step.specs.Answers.{ranAnswer}
-use Rattle.step.proofs.Runs.{log-accepted, unlogged-run}
+use Rattle.step.proofs.OnEvents.Runs.{log-accepted, unlogged-run}
 use Rattle.engine.specs.Runs.{followIn, endsBy}
 use Rattle.engine.proofs.run_planned.Statement.{statement}
 use Rattle.engine.proofs.run_planned.Tie as tie

@@ -19,7 +19,7 @@ use Rattle.step.specs.Lists.{Among, first, keep}
 use Rattle.step.specs.Meets.{meets}
 use Rattle.step.specs.Moves.{Configuration}
 use Rattle.step.specs.Calls.{isEntry}
-use Rattle.step.proofs.Lists.{none-some, kept-passes, passes-kept, number-passes, passes-number, least-none, least-some}
+use Rattle.step.proofs.OnLists.Lists.{none-some, kept-passes, passes-kept, number-passes, passes-number, least-none, least-some}
 use Rattle.monitor.specs.Monitor.{Armed, State, initial, tripleIn, arms, armedBy, fails, failing, ofNumber, refusal}
 use Rattle.monitor.specs.Published.{reached, inOrder, Breaks}
 use Rattle.monitor.specs.Demand.{Lowest}

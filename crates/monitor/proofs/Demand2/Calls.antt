@@ -18,8 +18,8 @@ use Rattle.step.specs.Lists.{first, keep, any}
 use Rattle.step.specs.Moves.{Configuration}
 use Rattle.step.specs.Calls.{isEntry, openFor}
 use Rattle.step.specs.Verdicts.{isJudged}
-use Rattle.step.proofs.Refusing as Refusing
-use Rattle.step.proofs.Lists.{none-some, headOf, first-keep, keep-append, keep-none, keep-again, keep-without, any-keep, any-map}
+use Rattle.step.proofs.OnEvents.Refusing as Refusing
+use Rattle.step.proofs.OnLists.Lists.{none-some, headOf, first-keep, keep-append, keep-none, keep-again, keep-without, any-keep, any-map}
 use Rattle.monitor.specs.Monitor.{Armed, State, initial, fresh, ofNumber, entered, exited, refusal, offer}
 use Rattle.monitor.specs.Published.{shift, reached}
 use Rattle.monitor.proofs.Demand2.Traces.{Leads, begun, more, opening, next, callOf, another, Opened, shift-snoc, call-snoc, opened-call, call-opened}

@@ -12,7 +12,7 @@ use Rattle.step.specs.Lists.{first}
 use Rattle.step.specs.Meets.{acted}
 use Rattle.step.specs.Moves.{Configuration, seen, enabled, after, moved}
 use Rattle.step.specs.Answers.{Ending}
-use Rattle.step.proofs.Lists.{first-passes, none-passes}
+use Rattle.step.proofs.OnLists.Lists.{first-passes, none-passes}
 use Rattle.monitor.specs.Monitor.{initial}
 use Rattle.monitor.specs.Published.{shift, Leading, inOrder, asPrinted, Step, Shifts, Breaks, Counterexample}
 use Rattle.monitor.specs.Demand.{Clear, Finds, Violated, Refused, Clean, Published, Exclusive, OrderAgrees}
@@ -84,7 +84,7 @@ module _ (S : Sheet) (R Q : Leading) (f : (w : List Event) (k : Configuration) �
   finds-over {w} h =
       record {
         counterexample = counter-over S R Q f (h .counterexample);
-        length = h .length;
+        counted = h .counted;
         to = h .to;
         leads = f w (h .to) (h .leads);
         bad = h .bad;

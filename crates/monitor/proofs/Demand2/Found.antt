@@ -14,8 +14,8 @@ use Rattle.step.specs.Lists.{first}
 use Rattle.step.specs.Calls.{isEntry}
 use Rattle.step.specs.Moves.{Configuration}
 use Rattle.step.specs.Verdicts.{verdict, causeState, causeTriple}
-use Rattle.step.proofs.Lists.{none-some}
-use Rattle.step.proofs.Causes.{verdict-none, verdict-some}
+use Rattle.step.proofs.OnLists.Lists.{none-some}
+use Rattle.step.proofs.OnEvents.Causes.{verdict-none, verdict-some}
 use Rattle.monitor.specs.Monitor.{State, initial, fresh, failing, ofNumber, entered, exited, refusal, offer}
 use Rattle.monitor.specs.Published.{shift, reached, inOrder, Counterexample}
 use Rattle.monitor.specs.Demand.{Lowest, Clear, Finds}
@@ -51,7 +51,7 @@ module _ (S : Sheet) (plain : Plain S) where
     judged-finds v q =
         let (p, s, r, c) = verdict-some (S .common) (length w + 1) (reached S (w ++ e ∷ []) .main) (brokenAt S σ e) v (sym (verdict-at S t e h) ∙ q) in
         let l = lowest-broken S plain t e h in
-        record { counterexample = counter l c; length = p ∙ sym (length-append w (e ∷ [])); to = reached S (w ++ e ∷ []); leads = refl; bad = s; lowest = rw r l }
+        record { counterexample = counter l c; counted = p ∙ sym (length-append w (e ∷ [])); to = reached S (w ++ e ∷ []); leads = refl; bad = s; lowest = rw r l }
       where
         counter : Lowest S (inOrder S) (w ++ e ∷ []) (brokenAt S σ e) → (isBad (S .common .bad) (reached S (w ++ e ∷ []) .main) ≡ true) ⊎ ((i : ℕ) × (brokenAt S σ e ≡ some i)) → Counterexample S (inOrder S) (w ++ e ∷ [])
         counter l (inl x) = inl (reached S (w ++ e ∷ []), refl, x)

@@ -15,7 +15,7 @@ use Rattle.step.specs.Runs as runs
 use Rattle.step.specs.Runs.{Ran, runFrom}
 use Rattle.step.specs.Answers.{Ending, violated, clean, refused, refusedAt, ranAnswer}
 use Rattle.engine.specs.Runs.{endsIn}
-use Rattle.step.proofs.Runs.{offered-answer, turn-refused, turn-judged, turn-on}
+use Rattle.step.proofs.OnEvents.Runs.{offered-answer, turn-refused, turn-judged, turn-on}
 use Rattle.monitor.specs.Monitor.{State, fresh, refusal, offer, run}
 use Rattle.monitor.specs.Published.{inOrder}
 use Rattle.monitor.specs.Demand.{refusalAfter, Taken, Clear, Lowest, Finds, Violated, Clean, Refused, Published}
@@ -121,7 +121,7 @@ module _ (S : Sheet) (plain : Plain S) where
 
   pub finds-same : (w : List Event) (n m : ℕ) (q p s t : Option ℕ) → Finds S (inOrder S) w n q s → Finds S (inOrder S) w m p t → violated n q s ≡ violated m p t
   finds-same w n m q p s t h k =
-      let x : n ≡ m = h .length ∙ sym (k .length) in
+      let x : n ≡ m = h .counted ∙ sym (k .counted) in
       let y : q ≡ p = h .bad ∙ ap (λ (c : Configuration). badState (S .common .bad) (c .main)) (h .leads ∙ sym (k .leads)) ∙ sym (k .bad) in
       let z = lowest-same w s t (h .lowest) (k .lowest) in
       λ i. violated (x i) (y i) (z i)

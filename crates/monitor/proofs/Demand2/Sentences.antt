@@ -12,9 +12,9 @@ use Rattle.sheet.specs.Parts.{Sheet}
 use Rattle.sheet.specs.Log.{Event}
 use Rattle.step.specs.Lists.{Among, keep, any}
 use Rattle.step.specs.Calls.{Call, isEntry, isExit, openFor, mostCalls, lastPosition, refusals, lowest}
-use Rattle.step.proofs.Lists.{keep-without, any-keep, any-map}
-use Rattle.step.proofs.Keeping.{length-keep}
-use Rattle.step.proofs.Refusing as Refusing
+use Rattle.step.proofs.OnLists.Lists.{keep-without, any-keep, any-map}
+use Rattle.step.proofs.OnLists.Keeping.{length-keep}
+use Rattle.step.proofs.OnEvents.Refusing as Refusing
 use Rattle.monitor.specs.Monitor.{Armed, initial, ofNumber}
 use Rattle.monitor.specs.Published.{Leading, shift, reached}
 use Rattle.monitor.specs.Demand.{stillOpen, openedBy, refusalAfter, Taken}

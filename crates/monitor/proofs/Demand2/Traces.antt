@@ -15,7 +15,7 @@ use Rattle.sheet.specs.Log.{Event}
 use Rattle.sheet.proofs.Tables.{and-parts}
 use Rattle.step.specs.Moves.{Configuration, moved}
 use Rattle.step.specs.Calls.{isEntry}
-use Rattle.step.proofs.Lists.{none-some}
+use Rattle.step.proofs.OnLists.Lists.{none-some}
 use Rattle.monitor.specs.Monitor.{Armed, State, armedBy, fresh, refusal, offer}
 use Rattle.monitor.specs.Published.{shift}
 

@@ -10,7 +10,7 @@ use Rattle.sheet.specs.Reading.{reading, sheetLayout}
 use Rattle.sheet.specs.Answer.{readingPaper, answer}
 use Rattle.sheet.specs.Log.{Event}
 use Rattle.step.specs.Answers.{Response, taken, declined, answerOf}
-use Rattle.step.proofs.Runs.{refused-with, unread-offer}
+use Rattle.step.proofs.OnEvents.Runs.{refused-with, unread-offer}
 use Rattle.monitor.specs.declared.WatchState.{WatchState}
 use Rattle.monitor.specs.Monitor as Monitor
 use Rattle.monitor.specs.Padded.{pad, view, soundState}

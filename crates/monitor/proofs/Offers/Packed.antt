@@ -27,8 +27,8 @@ use Rattle.step.specs.Padding.{zeroCall, padded}
 use Rattle.step.specs.Verdicts.{outcomeOf}
 use Rattle.step.specs.Runs.{Offered}
 use Rattle.step.specs.Answers.{taken, declined}
-use Rattle.step.proofs.Runs.{offered-answer}
-use Rattle.step.proofs.Rooms.{every-take, outcome-verdict, four, four-of-eight}
+use Rattle.step.proofs.OnEvents.Runs.{offered-answer}
+use Rattle.step.proofs.OnLists.Rooms.{every-take, outcome-verdict, four, four-of-eight}
 use Rattle.engine.specs.Machine as Machine
 use Rattle.engine.specs.Machines.{ofSheet}
 use Rattle.engine.specs.declared.Running.{Running}

@@ -18,7 +18,7 @@ use Rattle.sheet.proofs.Tables.{and-assoc, length-records, every-same}
 use Rattle.step.specs.declared.Call.{Call}
 use Rattle.step.specs.Lists.{beside, distinct}
 use Rattle.step.specs.Verdicts.{verdictFits, verdictIn}
-use Rattle.step.proofs.Rooms.{tidy-calls}
+use Rattle.step.proofs.OnLists.Rooms.{tidy-calls}
 use Rattle.step.specs.Padding.{clear, padded, isZeroCall}
 use Rattle.monitor.specs.declared.Arms.{Arms}
 use Rattle.monitor.specs.declared.sound.Tables.{Tables}

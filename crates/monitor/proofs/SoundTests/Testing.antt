@@ -15,7 +15,7 @@ use Rattle.sheet.specs.Decode.{tripleForm}
 use Rattle.sheet.proofs.Tables.{every-weaker}
 use Rattle.step.specs.Lists.{beside}
 use Rattle.step.specs.Padding.{clear}
-use Rattle.step.proofs.Turns.{every-end, every-next, every-fails}
+use Rattle.step.proofs.OnLists.Turns.{every-end, every-next, every-fails}
 use Rattle.monitor.specs.declared.Arms.{Arms}
 use Rattle.monitor.specs.Sound.{rising}
 use Rattle.monitor.specs.Padded.{tidyArms}

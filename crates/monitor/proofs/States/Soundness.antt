@@ -20,10 +20,10 @@ use Rattle.step.specs.Lists.{first, keep, any, least, distinct}
 use Rattle.step.specs.Moves.{Configuration}
 use Rattle.step.specs.Calls.{Call, isEntry}
 use Rattle.step.specs.Verdicts.{verdict, ifThere}
-use Rattle.step.proofs.Lists.{any-map, first-passes, kept-passes, least-some}
-use Rattle.step.proofs.Runs.{offered-keeps}
-use Rattle.step.proofs.Moving.{sheet-good, moved-main, moved-variables, verdict-fits}
-use Rattle.step.proofs.Keeping.{every-among, among-every, every-keep, length-keep, distinct-keep, distinct-more}
+use Rattle.step.proofs.OnLists.Lists.{any-map, first-passes, kept-passes, least-some}
+use Rattle.step.proofs.OnEvents.Runs.{offered-keeps}
+use Rattle.step.proofs.OnEvents.Moving.{sheet-good, moved-main, moved-variables, verdict-fits}
+use Rattle.step.proofs.OnLists.Keeping.{every-among, among-every, every-keep, length-keep, distinct-keep, distinct-more}
 use Rattle.monitor.specs.Monitor.{Armed, State, fresh, tripleIn, fails, failing, ofNumber, armedBy, entered, exited, refusal, offer}
 use Rattle.monitor.specs.Sound.{callSound, sound}
 use Rattle.monitor.proofs.Demand2.Traces.{Leads, begun, more}

@@ -11,7 +11,7 @@ use Rattle.sheet.specs.Reading.{reading, sheetLayout}
 use Rattle.sheet.specs.Answer as paper
 use Rattle.sheet.specs.Answer.{readingPaper, headerOf, answer}
 use Rattle.sheet.proofs.Answers.{answer-accepted, answer-refused}
-use Rattle.step.proofs.Rooms.{four, four-of-eight}
+use Rattle.step.proofs.OnLists.Rooms.{four, four-of-eight}
 use Rattle.monitor.specs.declared.WatchState.{WatchState}
 use Rattle.monitor.specs.Monitor.{fresh}
 use Rattle.monitor.specs.Padded.{zeroState, pad, freshOf}

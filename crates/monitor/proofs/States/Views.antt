@@ -15,7 +15,7 @@ use Rattle.sheet.proofs.Tests.{and-iff, leb-iff, eqb-iff}
 use Rattle.step.specs.declared.Call.{Call}
 use Rattle.step.specs.Lists.{beside}
 use Rattle.step.specs.Padding.{unpad, zeroCall, padCall, padded, isZeroCall}
-use Rattle.step.proofs.Rooms.{take-fit, take-fitted, fit-take, map-same, every-drop, every-both, every-take, is-zero, fit-padded, rows-in, call-back, outcome-verdict, verdict-outcome}
+use Rattle.step.proofs.OnLists.Rooms.{take-fit, take-fitted, fit-take, map-same, every-drop, every-both, every-take, is-zero, fit-padded, rows-in, call-back, outcome-verdict, verdict-outcome}
 use Rattle.monitor.specs.declared.Arms.{Arms}
 use Rattle.monitor.specs.declared.WatchState.{WatchState}
 use Rattle.monitor.specs.Monitor.{Armed, State}

@@ -8,9 +8,9 @@ use Rattle.sheet.specs.Log.{Event}
 use Rattle.step.specs.Lists.{any, distinct}
 use Rattle.step.specs.Calls.{Call, isEntry}
 use Rattle.step.specs.Runs.{offered}
-use Rattle.step.proofs.Lists.{any-map}
-use Rattle.step.proofs.Keeping.{distinct-keep, distinct-more}
-use Rattle.step.proofs.Refusing as Refusing
+use Rattle.step.proofs.OnLists.Lists.{any-map}
+use Rattle.step.proofs.OnLists.Keeping.{distinct-keep, distinct-more}
+use Rattle.step.proofs.OnEvents.Refusing as Refusing
 use Rattle.engine.specs.Machine.{Machine, Armed, State, ofNumber, entered, exited, refusal, offer}
 
 -- no two open calls have one number

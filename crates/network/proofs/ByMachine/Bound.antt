@@ -8,8 +8,8 @@ use borrow.Author.Tests.{eqb-true, eq-eqb}
 use lib.Dec.{eqb}
 use Rattle.sheet.proofs.Tests.{and-iff, not-iff}
 use Rattle.step.specs.Lists.{first, keep, any, distinct}
-use Rattle.step.proofs.Lists.{none-some, keep-append, any-map}
-use Rattle.step.proofs.Keeping.{any-weaker, keep-map}
+use Rattle.step.proofs.OnLists.Lists.{none-some, keep-append, any-map}
+use Rattle.step.proofs.OnLists.Keeping.{any-weaker, keep-map}
 use Rattle.engine.specs.Machine.{Armed, ofNumber}
 use Rattle.network.specs.declared.Checker.{Checker}
 use Rattle.network.specs.Network.{boundTo}

@@ -14,9 +14,9 @@ use Rattle.step.specs.Moves.{Configuration, seen, enabled, moved}
 use Rattle.step.specs.Calls.{Call, isEntry}
 use Rattle.step.specs.Verdicts.{verdict}
 use Rattle.step.specs.Runs.{offered}
-use Rattle.step.proofs.Keeping.{keep-map}
-use Rattle.step.proofs.Lists.{first-passes}
-use Rattle.step.proofs.Runs.{offered-answer}
+use Rattle.step.proofs.OnLists.Keeping.{keep-map}
+use Rattle.step.proofs.OnLists.Lists.{first-passes}
+use Rattle.step.proofs.OnEvents.Runs.{offered-answer}
 use Rattle.engine.specs.Machine as Engine
 use Rattle.engine.specs.Machine.{Machine, Armed}
 use Rattle.engine.specs.Machines.{ofNetwork, pairsOf}

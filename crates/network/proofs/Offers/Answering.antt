@@ -10,7 +10,7 @@ use Rattle.sheet.specs.Reading.{reading, networkLayout}
 use Rattle.sheet.specs.Answer.{readingPaper, answer}
 use Rattle.sheet.specs.Log.{Event}
 use Rattle.step.specs.Answers.{Response, taken, declined, answerOf}
-use Rattle.step.proofs.Runs.{refused-with, unread-offer}
+use Rattle.step.proofs.OnEvents.Runs.{refused-with, unread-offer}
 use Rattle.network.specs.declared.NetworkState.{NetworkState}
 use Rattle.network.specs.Network as Network
 use Rattle.network.specs.Padded.{pad, view, soundState}

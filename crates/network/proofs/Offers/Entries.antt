@@ -11,9 +11,9 @@ use lib.Seq.{getD-take}
 use Rattle.sheet.proofs.Tables.{and-parts}
 use Rattle.step.specs.declared.Call.{Call}
 use Rattle.step.specs.Lists.{first, any, placeOf}
-use Rattle.step.proofs.Lists.{headOf, first-keep, keep-none}
-use Rattle.step.proofs.Searching.{any-place}
-use Rattle.step.proofs.Keeping.{first-place}
+use Rattle.step.proofs.OnLists.Lists.{headOf, first-keep, keep-none}
+use Rattle.step.proofs.OnLists.Searching.{any-place}
+use Rattle.step.proofs.OnLists.Keeping.{first-place}
 use Rattle.network.specs.declared.NetworkState.{NetworkState}
 use Rattle.network.specs.Padded.{zeroChecker}
 use Rattle.network.specs.Answers.{keptBy, entryValues}

@@ -13,8 +13,8 @@ use Rattle.sheet.proofs.Tables.{and-parts, and-both, every-weaker, every-map}
 use Rattle.sheet.proofs.Tests.{and-iff, not-iff, leb-iff, eqb-iff}
 use Rattle.step.specs.Lists.{Among, keep, any, distinct, placeOf}
 use Rattle.step.specs.Calls.{Call}
-use Rattle.step.proofs.Lists.{keep-none, any-map, kept-passes}
-use Rattle.step.proofs.Keeping.{every-among, among-every, every-keep}
+use Rattle.step.proofs.OnLists.Lists.{keep-none, any-map, kept-passes}
+use Rattle.step.proofs.OnLists.Keeping.{every-among, among-every, every-keep}
 use Rattle.engine.specs.Machine.{Armed}
 use Rattle.engine.specs.Showing.{Steady}
 use Rattle.network.specs.declared.Checker.{Checker}

@@ -28,9 +28,9 @@ use Rattle.step.specs.Verdicts.{outcomeOf}
 use Rattle.step.specs.Runs.{Offered}
 use Rattle.step.specs.Answers.{taken, declined}
 use Rattle.step.specs.Calls.{eventOf}
-use Rattle.step.proofs.Lists.{any-map}
-use Rattle.step.proofs.Runs.{offered-answer}
-use Rattle.step.proofs.Rooms.{take-fit, length-fit, map-same, every-take, outcome-verdict}
+use Rattle.step.proofs.OnLists.Lists.{any-map}
+use Rattle.step.proofs.OnEvents.Runs.{offered-answer}
+use Rattle.step.proofs.OnLists.Rooms.{take-fit, length-fit, map-same, every-take, outcome-verdict}
 use Rattle.engine.specs.Machine as Machine
 use Rattle.engine.specs.Machine.{Armed}
 use Rattle.engine.specs.Machines.{ofNetwork}

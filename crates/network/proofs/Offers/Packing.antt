@@ -12,8 +12,8 @@ use Rattle.sheet.specs.Table.{every, fit}
 use Rattle.sheet.proofs.Tables.{and-both, every-append}
 use Rattle.step.specs.declared.Call.{Call}
 use Rattle.step.specs.Padding.{zeroCall}
-use Rattle.step.proofs.Filling.{Filling, filling-start, filling-next, filling-end}
-use Rattle.step.proofs.Rooms.{sets-more, length-fit, take-fitted, four, four-of-eight}
+use Rattle.step.proofs.OnLists.Filling.{Filling, filling-start, filling-next, filling-end}
+use Rattle.step.proofs.OnLists.Rooms.{sets-more, length-fit, take-fitted, four, four-of-eight}
 use Rattle.engine.specs.declared.Running.{Running}
 use Rattle.engine.specs.declared.pack.Arms.{Arms}
 use Rattle.engine.specs.Packed.{wordsOf, putAt, callIn, armsIn, callAt, armsAt}

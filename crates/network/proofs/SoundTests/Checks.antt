@@ -22,9 +22,9 @@ use Rattle.step.specs.Lists.{Among, any, keep, distinct, placeOf}
 use Rattle.step.specs.Calls as Calls
 use Rattle.step.specs.Verdicts.{verdictFits, verdictIn}
 use Rattle.step.specs.Padding.{unpad, clear, padded, isZeroCall}
-use Rattle.step.proofs.Rooms.{tidy-calls, every-take}
-use Rattle.step.proofs.Lists.{any-map}
-use Rattle.step.proofs.Keeping.{every-among, place-map}
+use Rattle.step.proofs.OnLists.Rooms.{tidy-calls, every-take}
+use Rattle.step.proofs.OnLists.Lists.{any-map}
+use Rattle.step.proofs.OnLists.Keeping.{every-among, place-map}
 use Rattle.network.specs.declared.Checker.{Checker}
 use Rattle.network.specs.declared.NetworkState.{NetworkState}
 use Rattle.network.specs.declared.sound.Tables.{Tables}

@@ -10,7 +10,7 @@ use lib.Dec.{leb}
 use lib.ListN.{length, getD, take, drop, length-take, drop-of-length-le}
 use lib.Seq.{drop-cons, getD-take}
 use Rattle.step.specs.Lists.{keep}
-use Rattle.step.proofs.Filling.{keep-none-left, keep-here, keep-not-here}
+use Rattle.step.proofs.OnLists.Filling.{keep-none-left, keep-here, keep-not-here}
 use Rattle.network.specs.Sound.{neverFalls}
 
 -- Of the first `n` elements i are seen, and `count` of those pass.

@@ -22,9 +22,9 @@ use Rattle.step.specs.Lists.{Among, first, keep, any}
 use Rattle.step.specs.Meets.{meets}
 use Rattle.step.specs.Moves.{Configuration, seen, enabled}
 use Rattle.step.specs.Calls.{Call}
-use Rattle.step.proofs.Lists.{keep-append, first-passes, kept-passes}
-use Rattle.step.proofs.Turns.{any-append}
-use Rattle.step.proofs.Keeping.{every-among, among-every, among-at, length-keep}
+use Rattle.step.proofs.OnLists.Lists.{keep-append, first-passes, kept-passes}
+use Rattle.step.proofs.OnLists.Turns.{any-append}
+use Rattle.step.proofs.OnLists.Keeping.{every-among, among-every, among-at, length-keep}
 use Rattle.network.specs.declared.Checker.{Checker}
 use Rattle.network.specs.Network.{templateIn, pairsIn, created, boundTo, ofNumber}
 use Rattle.network.specs.Sound.{onCall, fourACall, inOrder, checkersSound}

@@ -18,9 +18,9 @@ use Rattle.step.specs.Calls as Calls
 use Rattle.step.specs.Runs.{Offered, offered}
 use Rattle.step.specs.Padding.{zeroCall, padCall, clear, padded, isZeroCall}
 use Rattle.step.specs.Verdicts.{isJudged}
-use Rattle.step.proofs.Runs.{offered-answer}
-use Rattle.step.proofs.Refusing.{lowest-never}
-use Rattle.step.proofs.Rooms.{length-fit, every-fit, every-behind, padded-fit, zero-padded}
+use Rattle.step.proofs.OnEvents.Runs.{offered-answer}
+use Rattle.step.proofs.OnEvents.Refusing.{lowest-never}
+use Rattle.step.proofs.OnLists.Rooms.{length-fit, every-fit, every-behind, padded-fit, zero-padded}
 use Rattle.network.specs.declared.NetworkState.{NetworkState}
 use Rattle.network.specs.Network.{State, fresh, refusal, offer}
 use Rattle.network.specs.Sound.{callSound, sound}

@@ -13,8 +13,8 @@ use Rattle.sheet.proofs.Tables.{and-parts, every-weaker}
 use Rattle.sheet.proofs.Tests.{and-iff, leb-iff}
 use Rattle.step.specs.Lists.{keep, any}
 use Rattle.step.specs.Calls.{Call}
-use Rattle.step.proofs.Lists.{kept-passes}
-use Rattle.step.proofs.Keeping.{every-among, among-every, length-keep, any-weaker}
+use Rattle.step.proofs.OnLists.Lists.{kept-passes}
+use Rattle.step.proofs.OnLists.Keeping.{every-among, among-every, length-keep, any-weaker}
 use Rattle.network.specs.declared.Checker.{Checker}
 use Rattle.network.specs.Network.{State, templateIn, boundTo, ofNumber}
 use Rattle.network.specs.Sound.{onCall, fourACall, sound}

@@ -12,9 +12,9 @@ use Rattle.sheet.specs.Table.{every}
 use Rattle.sheet.proofs.Tables.{and-parts, and-both, every-map}
 use Rattle.step.specs.Lists.{Among, keep, any, placeOf}
 use Rattle.step.specs.Calls.{Call}
-use Rattle.step.proofs.Lists.{kept-passes}
-use Rattle.step.proofs.Searching.{place-low}
-use Rattle.step.proofs.Keeping.{every-among, among-every}
+use Rattle.step.proofs.OnLists.Lists.{kept-passes}
+use Rattle.step.proofs.OnLists.Searching.{place-low}
+use Rattle.step.proofs.OnLists.Keeping.{every-among, among-every}
 use Rattle.network.specs.declared.Checker.{Checker}
 use Rattle.network.specs.Network.{boundTo, ofNumber}
 use Rattle.network.specs.Sound.{neverFalls, inOrder}

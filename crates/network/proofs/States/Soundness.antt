@@ -21,13 +21,13 @@ use Rattle.step.specs.Moves.{Configuration}
 use Rattle.step.specs.Calls.{Call, isEntry}
 use Rattle.step.specs.Verdicts.{isJudged, verdict, ifThere}
 use Rattle.step.specs.Runs.{offered}
-use Rattle.step.proofs.Lists.{any-map, any-keep, kept-passes, least-some}
-use Rattle.step.proofs.Refusing as Refusing
-use Rattle.step.proofs.Keeping.{every-among, among-every, every-keep, length-keep, distinct-keep, distinct-more}
+use Rattle.step.proofs.OnLists.Lists.{any-map, any-keep, kept-passes, least-some}
+use Rattle.step.proofs.OnEvents.Refusing as Refusing
+use Rattle.step.proofs.OnLists.Keeping.{every-among, among-every, every-keep, length-keep, distinct-keep, distinct-more}
 use Rattle.network.specs.declared.Checker.{Checker}
 use Rattle.network.specs.Network.{State, fresh, templateIn, boundTo, fails, failing, ofNumber, entered, exited, refusal, offer}
 use Rattle.network.specs.Sound.{callSound, onCall, fourACall, neverFalls, inOrder, checkersSound, sound}
-use Rattle.step.proofs.Moving.{network-good, moved-main, moved-variables, verdict-fits}
+use Rattle.step.proofs.OnEvents.Moving.{network-good, moved-main, moved-variables, verdict-fits}
 use Rattle.network.proofs.States.Living.{four-fewer}
 use Rattle.network.proofs.States.Ordering.{order-fewer}
 use Rattle.network.proofs.States.Created.{created-sound}

@@ -15,7 +15,7 @@ use Rattle.sheet.proofs.Tables.{every-weaker}
 use Rattle.sheet.proofs.Tests.{and-iff, leb-iff, eqb-iff}
 use Rattle.step.specs.Calls.{Call}
 use Rattle.step.specs.Padding.{unpad, zeroCall, padCall}
-use Rattle.step.proofs.Rooms.{take-fit, take-fitted, fit-take, is-zero, fit-padded, rows-in, rows-out, outcome-verdict, verdict-outcome}
+use Rattle.step.proofs.OnLists.Rooms.{take-fit, take-fitted, fit-take, is-zero, fit-padded, rows-in, rows-out, outcome-verdict, verdict-outcome}
 use Rattle.network.specs.declared.Checker.{Checker}
 use Rattle.network.specs.declared.NetworkState.{NetworkState}
 use Rattle.network.specs.Network.{State}

@@ -7,7 +7,7 @@ use native.Mathlib.Omega.{arith}
 use lib.Dec.{eqb}
 use lib.ListN.{length, take}
 use Rattle.step.specs.declared.Call.{Call}
-use Rattle.step.proofs.Searching.{Passed, passed-none, call-none, call-nothing, call-any, call-more}
+use Rattle.step.proofs.OnLists.Searching.{Passed, passed-none, call-none, call-nothing, call-any, call-more}
 use Rattle.step.proofs.call_open_for.Statement.{statement}
 use Rattle.step.proofs.call_open_for.Tie as tie
 

@@ -7,7 +7,7 @@ use borrow.Author.Tests.{eq-eqb, ne-eqb}
 use lib.Dec.{eqb}
 use lib.ListN.{length, take}
 use Rattle.step.specs.declared.Call.{Call}
-use Rattle.step.proofs.Searching.{Passed, passed-none, call-far, call-end, call-found, call-more}
+use Rattle.step.proofs.OnLists.Searching.{Passed, passed-none, call-far, call-end, call-found, call-more}
 use Rattle.step.proofs.call_place.Statement.{statement}
 use Rattle.step.proofs.call_place.Tie as tie
 

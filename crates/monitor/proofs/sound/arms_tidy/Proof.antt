@@ -5,7 +5,7 @@ use borrow.Author.Needs.{needs}
 use native.Mathlib.Omega.{arith}
 use lib.ListN.{length, drop}
 use Rattle.sheet.specs.Table.{every}
-use Rattle.step.proofs.Turns.{every-end, every-next, every-fails}
+use Rattle.step.proofs.OnLists.Turns.{every-end, every-next, every-fails}
 use Rattle.monitor.specs.Padded.{tidyArms}
 use Rattle.monitor.proofs.sound.arms_tidy.Statement.{statement}
 use Rattle.monitor.proofs.sound.arms_tidy.Tie as tie

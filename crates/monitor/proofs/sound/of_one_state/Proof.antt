@@ -9,7 +9,7 @@ use native.Mathlib.Omega.{arith}
 use lib.Dec.{eqb}
 use lib.ListN.{length, getD, take, drop}
 use Rattle.sheet.specs.Table.{every}
-use Rattle.step.proofs.Turns.{part-end, part-far, part-next, part-fails}
+use Rattle.step.proofs.OnLists.Turns.{part-end, part-far, part-next, part-fails}
 use Rattle.monitor.specs.Walk.{tripleAt}
 use Rattle.monitor.proofs.SoundTests.Testing.{triple-read, state-is, one-state}
 use Rattle.monitor.proofs.sound.of_one_state.Statement.{statement}

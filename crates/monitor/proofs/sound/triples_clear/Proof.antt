@@ -8,7 +8,7 @@ use lib.Dec.{eqb}
 use lib.ListN.{length, drop}
 use Rattle.sheet.specs.Table.{every}
 use Rattle.step.specs.Padding.{clear}
-use Rattle.step.proofs.Turns.{every-end, every-next, every-fails}
+use Rattle.step.proofs.OnLists.Turns.{every-end, every-next, every-fails}
 use Rattle.monitor.proofs.sound.triples_clear.Statement.{statement}
 use Rattle.monitor.proofs.sound.triples_clear.Tie as tie
 

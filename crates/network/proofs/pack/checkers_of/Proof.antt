@@ -2,7 +2,7 @@
 use Prim.Native.Nat.{_-_, _<_}
 use native.Mathlib.Omega.{arith}
 use borrow.Author.Needs.{needs}
-use Rattle.step.proofs.Filling.{filling-start}
+use Rattle.step.proofs.OnLists.Filling.{filling-start}
 use Rattle.network.proofs.Offers.Packing.{Showing, showing-next, showing-end}
 use Rattle.network.proofs.pack.checkers_of.Statement.{statement}
 use Rattle.network.proofs.pack.checkers_of.Tie as tie

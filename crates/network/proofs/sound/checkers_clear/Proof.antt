@@ -5,7 +5,7 @@ use borrow.Author.Needs.{needs}
 use native.Mathlib.Omega.{arith}
 use lib.ListN.{length, drop}
 use Rattle.sheet.specs.Table.{every}
-use Rattle.step.proofs.Turns.{every-end, every-next, every-fails}
+use Rattle.step.proofs.OnLists.Turns.{every-end, every-next, every-fails}
 use Rattle.network.specs.Padded.{isZeroChecker}
 use Rattle.network.proofs.sound.checkers_clear.Statement.{statement}
 use Rattle.network.proofs.sound.checkers_clear.Tie as tie

@@ -11,7 +11,7 @@ use lib.ListN.{length, take, drop}
 use Rattle.sheet.specs.Table.{every}
 use Rattle.step.specs.declared.Call.{Call}
 use Rattle.step.specs.Lists.{keep}
-use Rattle.step.proofs.Turns.{part-end, part-far, part-next, part-fails}
+use Rattle.step.proofs.OnLists.Turns.{part-end, part-far, part-next, part-fails}
 use Rattle.network.specs.declared.Checker.{Checker}
 use Rattle.network.specs.Network.{boundTo}
 use Rattle.network.proofs.sound.four_a_call.Statement.{statement}

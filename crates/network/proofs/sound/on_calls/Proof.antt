@@ -5,7 +5,7 @@ use borrow.Author.Needs.{needs}
 use native.Mathlib.Omega.{arith}
 use lib.ListN.{length, take, drop}
 use Rattle.sheet.specs.Table.{every}
-use Rattle.step.proofs.Turns.{part-end, part-far, part-next, part-fails}
+use Rattle.step.proofs.OnLists.Turns.{part-end, part-far, part-next, part-fails}
 use Rattle.network.specs.Walk.{onCallAt}
 use Rattle.network.proofs.sound.on_calls.Statement.{statement}
 use Rattle.network.proofs.sound.on_calls.Tie as tie

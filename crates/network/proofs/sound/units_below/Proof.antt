@@ -9,7 +9,7 @@ use lib.Dec.{ltb}
 use lib.ListN.{length, take, drop}
 use Rattle.sheet.specs.Table.{every}
 use Rattle.step.specs.declared.Call.{Call}
-use Rattle.step.proofs.Turns.{part-end, part-far, part-next, part-fails}
+use Rattle.step.proofs.OnLists.Turns.{part-end, part-far, part-next, part-fails}
 use Rattle.network.proofs.sound.units_below.Statement.{statement}
 use Rattle.network.proofs.sound.units_below.Tie as tie
 

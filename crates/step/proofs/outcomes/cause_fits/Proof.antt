@@ -1,6 +1,6 @@
 -- `outcomes::cause_fits` meets its contract. Assumes nothing.
 use borrow.Author.Needs.{needs}
-use Rattle.step.proofs.Causes.{fits-state, fits-triple, fits-both}
+use Rattle.step.proofs.OnEvents.Causes.{fits-state, fits-triple, fits-both}
 use Rattle.step.proofs.outcomes.cause_fits.Statement.{statement}
 use Rattle.step.proofs.outcomes.cause_fits.Tie as tie
 

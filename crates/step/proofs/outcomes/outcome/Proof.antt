@@ -1,6 +1,6 @@
 -- `outcomes::outcome` meets its contract. Assumes nothing.
 use borrow.Author.Needs.{needs}
-use Rattle.step.proofs.Causes.{outcome-both, outcome-triple, outcome-state, outcome-open}
+use Rattle.step.proofs.OnEvents.Causes.{outcome-both, outcome-triple, outcome-state, outcome-open}
 use Rattle.step.proofs.outcomes.outcome.Statement.{statement}
 use Rattle.step.proofs.outcomes.outcome.Tie as tie
 

@@ -1,6 +1,6 @@
 -- `outcomes::outcome_fits` meets its contract. Assumes nothing.
 use borrow.Author.Needs.{needs}
-use Rattle.step.proofs.Causes.{fits-open, fits-judged}
+use Rattle.step.proofs.OnEvents.Causes.{fits-open, fits-judged}
 use Rattle.step.proofs.outcomes.outcome_fits.Statement.{statement}
 use Rattle.step.proofs.outcomes.outcome_fits.Tie as tie
 

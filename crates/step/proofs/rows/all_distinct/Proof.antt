@@ -7,7 +7,7 @@ use borrow.Author.Needs.{needs}
 use native.Mathlib.Omega.{arith}
 use lib.ListN.{take}
 use Rattle.step.specs.Lists.{distinct}
-use Rattle.step.proofs.Turns.{row-end, row-far, row-next, row-fails}
+use Rattle.step.proofs.OnLists.Turns.{row-end, row-far, row-next, row-fails}
 use Rattle.step.proofs.rows.all_distinct.Statement.{statement}
 use Rattle.step.proofs.rows.all_distinct.Tie as tie
 

@@ -9,8 +9,8 @@ use lib.ListN.{length, getD, drop}
 use Rattle.sheet.specs.Table.{every}
 use Rattle.step.specs.Padding.{padded, isZeroCall}
 use Rattle.step.specs.declared.Call.{Call}
-use Rattle.step.proofs.Rooms.{no-call-is}
-use Rattle.step.proofs.Turns.{every-end, every-next, every-fails}
+use Rattle.step.proofs.OnLists.Rooms.{no-call-is}
+use Rattle.step.proofs.OnLists.Turns.{every-end, every-next, every-fails}
 use Rattle.step.proofs.rows.calls_clear.Statement.{statement}
 use Rattle.step.proofs.rows.calls_clear.Tie as tie
 

@@ -7,7 +7,7 @@ use lib.Dec.{eqb}
 use lib.ListN.{length, drop}
 use Rattle.sheet.specs.Table.{every}
 use Rattle.step.specs.Padding.{clear}
-use Rattle.step.proofs.Turns.{every-end, every-next, every-fails}
+use Rattle.step.proofs.OnLists.Turns.{every-end, every-next, every-fails}
 use Rattle.step.proofs.rows.clear_from.Statement.{statement}
 use Rattle.step.proofs.rows.clear_from.Tie as tie
 

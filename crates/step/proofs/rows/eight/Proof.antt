@@ -2,7 +2,7 @@
 use Prim.Native.Nat.{_-_}
 use borrow.Author.Needs.{needs}
 use lib.ListN.{length, drop, drop-of-length-le}
-use Rattle.step.proofs.Filling.{Filling, filling-start, filling-next, filling-full, filling-end}
+use Rattle.step.proofs.OnLists.Filling.{Filling, filling-start, filling-next, filling-full, filling-end}
 use Rattle.step.proofs.rows.eight.Statement.{statement}
 use Rattle.step.proofs.rows.eight.Tie as tie
 

@@ -2,7 +2,7 @@
 use mathlib.Core.Path.{_≡_}
 use borrow.Author.Needs.{needs}
 use lib.ListN.{length}
-use Rattle.step.proofs.Rooms.{eight-clear}
+use Rattle.step.proofs.OnLists.Rooms.{eight-clear}
 use Rattle.step.proofs.rows.keeps_clear.Statement.{statement}
 use Rattle.step.proofs.rows.keeps_clear.Tie as tie
 

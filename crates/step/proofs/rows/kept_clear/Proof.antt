@@ -7,7 +7,7 @@ use lib.ListN.{length, drop, take}
 use Rattle.sheet.specs.Table.{every}
 use Rattle.step.specs.declared.Call.{Call}
 use Rattle.step.specs.Padding.{padded}
-use Rattle.step.proofs.Turns.{part-end, part-far, part-next, part-fails, padded-is}
+use Rattle.step.proofs.OnLists.Turns.{part-end, part-far, part-next, part-fails, padded-is}
 use Rattle.step.proofs.rows.kept_clear.Statement.{statement}
 use Rattle.step.proofs.rows.kept_clear.Tie as tie
 

@@ -2,7 +2,7 @@
 use mathlib.Core.Path.{_∙_}
 use borrow.Author.Needs.{needs}
 use Rattle.step.specs.declared.Call.{Call}
-use Rattle.step.proofs.Turns.{distinct-numbers}
+use Rattle.step.proofs.OnLists.Turns.{distinct-numbers}
 use Rattle.step.proofs.rows.numbers_distinct.Statement.{statement}
 use Rattle.step.proofs.rows.numbers_distinct.Tie as tie
 

@@ -6,7 +6,7 @@ use native.Mathlib.Omega.{arith}
 use lib.ListN.{length}
 use Rattle.sheet.specs.Table.{fit}
 use Rattle.step.specs.declared.Call.{Call}
-use Rattle.step.proofs.Rooms.{Made, made-start, made-next, made-end}
+use Rattle.step.proofs.OnLists.Rooms.{Made, made-start, made-next, made-end}
 use Rattle.step.proofs.rows.numbers_of.Statement.{statement}
 use Rattle.step.proofs.rows.numbers_of.Tie as tie
 

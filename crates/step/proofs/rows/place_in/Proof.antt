@@ -5,7 +5,7 @@ use native.Mathlib.Omega.{arith}
 use borrow.Author.Tests.{eq-eqb, ne-eqb}
 use lib.Dec.{eqb}
 use lib.ListN.{take}
-use Rattle.step.proofs.Searching.{Passed, passed-none, call-end, call-found, call-more}
+use Rattle.step.proofs.OnLists.Searching.{Passed, passed-none, call-end, call-found, call-more}
 use Rattle.step.proofs.rows.place_in.Statement.{statement}
 use Rattle.step.proofs.rows.place_in.Tie as tie
 

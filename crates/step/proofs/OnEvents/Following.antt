@@ -22,7 +22,7 @@ use Rattle.step.specs.Verdicts.{outcomeOf, verdictIn}
 use Rattle.step.specs.Runs.{Offered, Ran, unlessJudged, unlessRefusedAt, runFrom}
 use Rattle.step.specs.Answers as words
 use Rattle.step.specs.Answers.{Ending, runPaper, ranAnswer}
-use Rattle.step.proofs.Rooms.{verdict-outcome}
+use Rattle.step.proofs.OnLists.Rooms.{verdict-outcome}
 
 -- What reading a log leaves: it says its length, and its records fill it.
 pub log-length : (P : ℕ) (log : List ℕ) → logReading P log ≡ 0 → word log 0 ≡ length log

@@ -20,9 +20,9 @@ use Rattle.step.specs.Lists.{Among, first}
 use Rattle.step.specs.Meets.{acted, performedBy}
 use Rattle.step.specs.Moves.{Configuration, seen, enabled, after, moved}
 use Rattle.step.specs.Verdicts.{causeOf, placed, verdict, ifThere, verdictFits}
-use Rattle.step.proofs.Lists.{first-passes}
-use Rattle.step.proofs.Keeping.{among-at}
-use Rattle.step.proofs.Bridge.{noTransition, noPaired}
+use Rattle.step.proofs.OnLists.Lists.{first-passes}
+use Rattle.step.proofs.OnLists.Keeping.{among-at}
+use Rattle.step.proofs.OnEvents.Bridge.{noTransition, noPaired}
 
 -- Every transition of accepted bytes is good: of a sheet, and of a network.
 pub sheet-good : {s : List ℕ} → Accepted sheetLayout s → (t : Transition) → Among t (transitionsOf sheetLayout s) → GoodTransition (commonOf s) t

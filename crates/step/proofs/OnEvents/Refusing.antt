@@ -16,7 +16,7 @@ use Rattle.sheet.proofs.Tests.{and-iff, leb-iff, eqb-iff}
 use Rattle.step.specs.declared.Call.{Call}
 use Rattle.step.specs.Calls as Calls
 use Rattle.step.specs.Calls.{isEntry, isExit, openNumber, openFor, mostCalls, lastPosition, Refusal, refusals, lowest}
-use Rattle.step.proofs.Keeping.{any-weaker}
+use Rattle.step.proofs.OnLists.Keeping.{any-weaker}
 
 -- the lowest of refusals 10 to 15 (Calls.refusals), by whether the event's number is open, sixteen calls are, and the number is open for its unit
 abbrev pub refusalBy : ℕ → ℕ → Bool → ℕ → Bool → Bool → Bool → Event → ℕ

@@ -12,8 +12,8 @@ use lib.Seq.{drop-cons, take-suc, take-all, take-take, getD-take, length-take-le
 use Rattle.sheet.specs.Table.{every}
 use Rattle.step.specs.Lists.{any, distinct, placeOf}
 use Rattle.step.specs.Padding.{clear, padded}
-use Rattle.step.proofs.Lists.{any-map}
-use Rattle.step.proofs.Searching.{any-place, place-low}
+use Rattle.step.proofs.OnLists.Lists.{any-map}
+use Rattle.step.proofs.OnLists.Searching.{any-place, place-low}
 
 -- Tests on all elements from a place on; b is what they answer on the whole.
 module _ {A : Type 0} (p : A → Bool) (l : List A) (i : ℕ) where

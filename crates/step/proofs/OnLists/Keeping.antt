@@ -16,10 +16,10 @@ use Rattle.sheet.proofs.Tables.{and-parts, and-both}
 use Rattle.sheet.proofs.Tests.{and-iff, not-iff}
 use Rattle.step.specs.Lists.{Among, first, keep, any, lesser, least, distinct, placeOf}
 use Rattle.step.specs.Walk.{leastOf, numberIn}
-use Rattle.step.proofs.Lists.{any-map, least-some}
-use Rattle.step.proofs.Filling.{keep-none-left, keep-here, keep-not-here}
-use Rattle.step.proofs.Turns.{distinct-snoc}
-use Rattle.step.proofs.Rooms.{take-fitted}
+use Rattle.step.proofs.OnLists.Lists.{any-map, least-some}
+use Rattle.step.proofs.OnLists.Filling.{keep-none-left, keep-here, keep-not-here}
+use Rattle.step.proofs.OnLists.Turns.{distinct-snoc}
+use Rattle.step.proofs.OnLists.Rooms.{take-fitted}
 
 -- What holds of all elements holds of each of them.
 pub every-among : {A : Type 0} (p : A → Bool) (l : List A) (x : A) → every p l ≡ true → Among x l → p x ≡ true

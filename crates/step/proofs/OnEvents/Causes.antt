@@ -16,7 +16,7 @@ use Rattle.step.specs.declared.Outcome.{Outcome}
 use Rattle.step.specs.declared.Outcome.the-variants.{Open, Judged}
 use Rattle.step.specs.Verdicts.{causeOf, placed, badState, verdict, causeState, causeTriple, ifThere, verdictFits, outcomeOf, verdictIn}
 use Rattle.step.specs.Walk.{numberIn}
-use Rattle.step.proofs.Lists.{none-some}
+use Rattle.step.proofs.OnLists.Lists.{none-some}
 
 -- a cause is the one of its state and its triple
 pub cause-is : (c : Cause) → causeOf (causeState c) (causeTriple c) ≡ some c
