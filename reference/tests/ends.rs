@@ -3,6 +3,7 @@
 //! generators make, and looked for in the files that the case programs read.
 
 mod committed;
+mod evaluations;
 
 use committed::{add, assert_shown, committed, Counts};
 use reference::counting::ends::{wanted, Operator, Stop, Turned, Written};
@@ -242,7 +243,7 @@ fn turned_answer(stop: Stop, frame: &condition_frames::Frame) -> Option<String> 
 #[test]
 fn of_conditions() {
     let mut counts = Counts::new();
-    for (frame, line) in &committed::conditions() {
+    for (frame, line) in &evaluations::conditions() {
         for (stop, label) in Stop::ALL.into_iter().zip(STOPS) {
             let turned = turned_answer(stop, frame);
             if turned.is_some_and(|turned| turned != *line) {

@@ -15,8 +15,9 @@ const GENERATE: &str = env!("CARGO_BIN_EXE_generate");
 const WATCH: &str = env!("CARGO_BIN_EXE_watch-reference");
 
 /// The case programs, and the files that each has below `crates/`.
-const NAMES: [&str; 6] = [
+const NAMES: [&str; 7] = [
     "condition_cases",
+    "bench_cases",
     "sheet_cases",
     "monitor_cases",
     "network_cases",

@@ -2,6 +2,7 @@
 //! make, and looked for in the files that the case programs read.
 
 mod committed;
+mod evaluations;
 
 use committed::{add, assert_shown, committed, lines, Counts};
 use reference::framing::condition_frames;
@@ -70,7 +71,7 @@ const OF_CONDITIONS: [(&str, usize); 47] = [
 #[test]
 fn of_conditions() {
     let mut counts = Counts::new();
-    for (frame, line) in &committed::conditions() {
+    for (frame, line) in &evaluations::conditions() {
         let (name, judged) = match frame.kind {
             condition_frames::Kind::Condition => ("condition", ""),
             condition_frames::Kind::Value => ("value", ""),

@@ -1,5 +1,6 @@
 //! How cases are written down and compared: frames and pages, files, dumps, the proved library.
 
+pub mod bench_frames;
 pub mod case_files;
 pub mod condition_frames;
 pub mod dump;

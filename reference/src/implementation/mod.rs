@@ -1,5 +1,6 @@
-//! Reading, engines, translation, program: written from the papers alone, but for what README.md names.
+//! Reading, engines, translation, program, conditions for the bench: written from the papers alone, but for what README.md names.
 
+pub mod bench_conditions;
 pub mod engine;
 pub mod expr;
 pub mod machine;

@@ -34,10 +34,14 @@ pub enum Refusal {
     Buffer = 19,
     /// A joined condition over 1,024 bytes, or a version 3 network over 65,535.
     TooLong = 21,
+    /// The bench's conditions have 1 to 8 bytes.
+    NoSuchLength = 22,
+    /// The bytes are not one of the bench's conditions of that length.
+    NotListed = 26,
 }
 
 impl Refusal {
-    pub const ALL: [Refusal; 20] = [
+    pub const ALL: [Refusal; 22] = [
         Refusal::Length,
         Refusal::Version,
         Refusal::Header,
@@ -58,6 +62,8 @@ impl Refusal {
         Refusal::LogRecords,
         Refusal::Buffer,
         Refusal::TooLong,
+        Refusal::NoSuchLength,
+        Refusal::NotListed,
     ];
 
     pub fn number(self) -> u8 {

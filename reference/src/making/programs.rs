@@ -1,10 +1,12 @@
 //! The case programs, and what their input and expected output hold. To add one, add a line to
 //! `PROGRAMS` and describe its frames in CASES.md.
 
+use crate::framing::bench_frames;
 use crate::framing::case_files::Files;
 use crate::framing::pages;
 use crate::framing::script_frames::Own;
 use crate::framing::translation_frames::Frame;
+use crate::making::cases::bench_cases;
 use crate::making::cases::condition_cases;
 use crate::making::cases::program_cases;
 use crate::making::cases::sheet_cases;
@@ -26,6 +28,14 @@ pub const PROGRAMS: &[Program] = &[
             let rows = condition_cases::all();
             let frames = rows.iter().map(|row| &row.frame);
             gather(frames, |f, out| f.write(out), |f| Some(f.answer()))
+        },
+    },
+    Program {
+        name: "bench_cases",
+        make: || {
+            let frames = bench_cases::all();
+            let lines = |f: &&bench_frames::Frame| Some(f.lines().join("\n"));
+            gather(frames.iter(), |f, out| f.write(out), lines)
         },
     },
     Program {

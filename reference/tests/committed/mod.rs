@@ -1,6 +1,5 @@
 //! The committed files of the case programs, and what is counted in them.
 
-use reference::framing::condition_frames::{read_frames, Frame};
 use std::collections::BTreeMap;
 use std::fs;
 
@@ -28,12 +27,4 @@ pub fn assert_shown(counts: &Counts, wanted: &[(&str, usize)]) {
 
 pub fn add(counts: &mut Counts, label: String) {
     *counts.entry(label).or_insert(0) += 1;
-}
-
-/// The cases of `condition_cases`, each with its line.
-pub fn conditions() -> Vec<(Frame, String)> {
-    let frames = read_frames(&committed("condition_cases", "stdin")).expect("frames");
-    let lines = lines("condition_cases");
-    assert_eq!(frames.len(), lines.len());
-    frames.into_iter().zip(lines).collect()
 }

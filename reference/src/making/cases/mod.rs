@@ -1,5 +1,6 @@
 //! The cases of the programs whose frames stand each on its own.
 
+pub mod bench_cases;
 pub mod condition_cases;
 pub(crate) mod condition_ends;
 pub mod program_cases;

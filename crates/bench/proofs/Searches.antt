@@ -1,0 +1,3 @@
+-- What the private functions do, turn by turn.
+pub mod Behind
+pub mod Loops
