@@ -328,7 +328,8 @@ fn refusals_5_to_7_of_version_3() {
     assert_eq!(answer(|d| d.templates[0] = [1, 2]), Some(6));
     assert_eq!(answer(|d| d.transitions[1].0[3] = 1), None);
     assert_eq!(answer(|d| d.transitions[1].0[3] = 2), Some(7));
-    assert_eq!(answer(|d| d.transitions[0].1[0] = [1, 0]), Some(7));
+    assert_eq!(answer(|d| d.transitions[0].1[0] = [1, 0]), None);
+    assert_eq!(answer(|d| d.transitions[0].1[0] = [2, 0]), Some(7));
     assert_eq!(answer(|d| d.templates[0] = [0, 1]), Some(7));
     assert_eq!(answer(|d| d.front.actions[0] = vec![0, 19, 0]), Some(7));
     // The highest number of a condition.

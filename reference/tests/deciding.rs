@@ -111,7 +111,7 @@ const OF_BOTH: [&str; 20] = [
     "refused 15 by the low byte",
     "refused 13 behind another low byte",
 ];
-const OF_EVENTS: [&str; 7] = [
+const OF_EVENTS: [&str; 8] = [
     "the last program value decides the state",
     "the last program value decides a variable",
     "the last program value decides what is armed",
@@ -119,6 +119,7 @@ const OF_EVENTS: [&str; 7] = [
     "the last value at entry decides the triple",
     "the last variable decides the state",
     "the last variable decides a variable",
+    "the last variable decides what is armed",
 ];
 
 /// What the generator must make of version 3.

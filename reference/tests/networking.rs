@@ -54,6 +54,7 @@ fn every_sort_of_case_occurs_often() {
             (Sort::Wide, 1_000),
             (Sort::Ends, 500),
             (Sort::Card, 600),
+            (Sort::Preconditions, 1_000),
         ],
     );
     let logs = count(pages, |row, _| is_run(row));

@@ -46,6 +46,7 @@ fn every_sort_of_case_occurs_often() {
             (Sort::Shaken, 200),
             (Sort::Wide, 1_000),
             (Sort::Ends, 500),
+            (Sort::Preconditions, 500),
         ],
     );
     let logs = count(pages, |row, _| is_run(row));

@@ -375,7 +375,7 @@ fn refusal_7() {
     // Condition 1 holds a monitor variable, condition 2 a value at entry.
     assert_eq!(sheet_answer(|d| d.transitions[1][3] = 2), Err(7));
     assert_eq!(sheet_answer(|d| d.transitions[1][3] = 1), Ok(()));
-    for (precondition, answer) in [(0, Ok(())), (1, Err(7)), (2, Err(7)), (3, Ok(()))] {
+    for (precondition, answer) in [(0, Ok(())), (1, Ok(())), (2, Err(7)), (3, Ok(()))] {
         assert_eq!(sheet_answer(|d| d.triples[1][2] = precondition), answer);
         let pair = |d: &mut NetworkDraft| d.transitions[0].1[0][0] = precondition;
         assert_eq!(network_answer(pair), answer);
@@ -401,12 +401,15 @@ fn refusal_7() {
         sheet_answer(|d| d.front.conditions.push(vec![5, 18, 0, 19, 0])),
         Ok(())
     );
-    // In a part that evaluation does not reach.
-    let hidden = vec![3, 0, 5, 18, 0, 17, 0];
-    assert_eq!(
-        sheet_answer(|d| d.front.conditions[3].clone_from(&hidden)),
-        Err(7)
-    );
+    // In a part that evaluation does not reach, of a pre- and a postcondition.
+    for (operator, place) in [(18, 3), (19, 2)] {
+        let hidden = vec![3, 0, 5, operator, 0, 17, 0];
+        let named = |d: &mut SheetDraft| {
+            d.front.conditions.push(hidden.clone());
+            d.triples[1][place] = 4;
+        };
+        assert_eq!(sheet_answer(named), Err(7));
+    }
 }
 
 #[test]
@@ -424,9 +427,10 @@ fn refusal_8() {
         d.triples.push([1, 0, 0, 0]);
     };
     assert_eq!(sheet_answer(late), Err(8));
-    // 7 comes before 8.
-    let both = |d: &mut SheetDraft| d.triples = vec![[0, 1, 1, 0]; 5];
-    assert_eq!(sheet_answer(both), Err(7));
+    // 7 comes before 8: a value at entry before, a monitor variable after; the other way round is right.
+    for (triple, refusal) in [([0, 1, 2, 0], 7), ([0, 1, 0, 1], 7), ([0, 1, 1, 2], 8)] {
+        assert_eq!(sheet_answer(|d| d.triples = vec![triple; 5]), Err(refusal));
+    }
 }
 
 #[test]

@@ -4,7 +4,7 @@ use mathlib.Core.Bool.{true}
 use mathlib.Core.List.{map}
 use lib.Dec.{leb}
 use lib.ListN.{length}
-use Rattle.condition.specs.Word.{bigEndian, signed, unsigned, clamp, lowEnd, highEnd, plusWord, equalWord}
+use Rattle.condition.specs.Word.{bigEndian, signed, unsigned, clamp, lowEnd, highEnd, plusWord, lessWord, equalWord}
 use Rattle.condition.specs.Tree.{conditionNames, valueNames, actionNames, isMonitor, isAtEntry}
 use Rattle.condition.specs.Parse.{isLent, literal, numbered, conditionOperator, valueOperator, conditionFrom, valueFrom, parseCondition, assignmentFrom, runFrom, parseAction}
 use Rattle.condition.specs.Meaning.{holds, word, valueOf, assigned, performed}
@@ -33,7 +33,7 @@ use Rattle.agreement.proofs.Agreement.{network-defined}
 use Rattle.agreement.proofs.Card.{card-agrees}
 
 defined-rows : map (λ (r : Row). shownBySheet (defined (sheetOf sheetB) (r .events))) rows ≡ map (λ (r : Row). r .shown) rows
-unfolding defined follow shownBySheet armedRow fresh offer refusal refusals lowest any first keep numbers least entered exited arms armedBy fails moved enabled meets acted sheetOf commonOf conditionsAt actionsAt transitionsAt lastAt records extent bigEndian parseCondition parseAction conditionFrom valueFrom conditionOperator valueOperator literal numbered isLent assignmentFrom runFrom performed assigned holds word equalWord plusWord signed unsigned clamp lowEnd highEnd valueOf
+unfolding defined follow shownBySheet armedRow fresh offer refusal refusals lowest any first keep numbers least entered exited arms armedBy fails moved enabled meets acted sheetOf commonOf conditionsAt actionsAt transitionsAt lastAt records extent bigEndian parseCondition parseAction conditionFrom valueFrom conditionOperator valueOperator literal numbered isLent assignmentFrom runFrom performed assigned holds word equalWord lessWord plusWord signed unsigned clamp lowEnd highEnd valueOf
 defined-rows = refl
 
 sheet-read : reading sheetLayout sheetB ≡ 0

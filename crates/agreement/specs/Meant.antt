@@ -7,13 +7,12 @@ use mathlib.Core.List.{List, [], _∷_, _++_, map}
 use Prim.Native.Nat.{ℕ, suc, _≤_, _<_}
 use lib.Dec.{eqb}
 use lib.ListN.{length}
-use Rattle.condition.specs.Meaning.{environment}
 use Rattle.sheet.specs.Parts.{Sheet}
 use Rattle.sheet.specs.Table.{every}
 use Rattle.sheet.specs.Log.{Event}
 use Rattle.step.specs.Lists.{Among, keep}
 use Rattle.step.specs.Meets.{meets}
-use Rattle.step.specs.Moves.{Configuration, moved}
+use Rattle.step.specs.Moves.{Configuration, seen, moved}
 use Rattle.step.specs.Answers.{Response, taken, declined}
 use Rattle.monitor.specs.Monitor.{initial, tripleIn, armedBy}
 use Rattle.monitor.specs.Published.{reached, inOrder, Counterexample}
@@ -30,7 +29,7 @@ pub data Answers (S : Sheet) : List Event → List Event → List Response → L
   ends : {w es u : List Event} {rest : List Response} → Counterexample S (inOrder S) w → (e : Event) → Answers S w es rest u → Answers S w (e ∷ es) (declined 10 ∷ rest) u
 
 -- A checker is due for a call number and a triple after a trace: the trace opened the call and left it open, and at its entry the triple was of its unit and
--- of the state held, and its precondition held.
+-- of the state held, and its precondition held, with the monitor variables as they stood before that event.
 pub record Due (S : Sheet) (w : List Event) (n i : ℕ) : Type 0 where
   pub w₁ : List Event
   pub entry : Event
@@ -42,7 +41,7 @@ pub record Due (S : Sheet) (w : List Event) (n i : ℕ) : Type 0 where
   pub there : i < length (S .triples)
   pub inState : tripleIn S i .state ≡ reached S w₁ .main
   pub ofUnit : tripleIn S i .unit ≡ entry .unit
-  pub precondition : meets (S .common) (tripleIn S i .precondition) (environment (entry .values) [] []) ≡ true
+  pub precondition : meets (S .common) (tripleIn S i .precondition) (seen entry (reached S w₁)) ≡ true
 
 -- how many living checkers a call number and a triple have
 abbrev pub many : ℕ → ℕ → List Living → ℕ

@@ -28,7 +28,7 @@ pub record Row : Type 0 where
   pub events : List Event
   pub shown : Shown
 
--- Two calls open, with their numbers and units, a checker for each with its value at entry, one entry of unit 0 counted; then an exit whose value is another, one that
+-- Two calls open, with their numbers and units, their checkers with the values at entry, one entry of unit 0 counted, at which triple 2 found none counted yet; then an exit whose value is another, one that
 -- leads to the bad state, one that does both, and one that does neither; events that are refused before and after a verdict.
 abbrev pub rows : List Row
 rows =
@@ -41,7 +41,7 @@ rows =
         main = 0;
         variables = 1 ∷ [];
         calls = record { number = 7; unit = 0 } ∷ record { number = 300; unit = 1 } ∷ [];
-        checkers = record { number = 7; triple = 0; entry = 5 ∷ [] } ∷ record { number = 300; triple = 1; entry = 9 ∷ [] } ∷ [];
+        checkers = record { number = 7; triple = 0; entry = 5 ∷ [] } ∷ record { number = 7; triple = 2; entry = 5 ∷ [] } ∷ record { number = 300; triple = 1; entry = 9 ∷ [] } ∷ [];
       };
     }
     ∷ record {
@@ -65,7 +65,7 @@ rows =
         main = 2;
         variables = 1 ∷ [];
         calls = record { number = 7; unit = 0 } ∷ [];
-        checkers = record { number = 7; triple = 0; entry = 5 ∷ [] } ∷ [];
+        checkers = record { number = 7; triple = 0; entry = 5 ∷ [] } ∷ record { number = 7; triple = 2; entry = 5 ∷ [] } ∷ [];
       };
     }
     ∷ record {

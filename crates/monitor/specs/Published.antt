@@ -15,7 +15,7 @@ use Rattle.sheet.specs.Reading.{isBad}
 use Rattle.sheet.specs.Log.{Event}
 use Rattle.step.specs.Lists.{Among}
 use Rattle.step.specs.Meets.{meets}
-use Rattle.step.specs.Moves.{Configuration, enabled, after, moved}
+use Rattle.step.specs.Moves.{Configuration, seen, enabled, after, moved}
 use Rattle.monitor.specs.Monitor.{initial, tripleIn}
 
 -- Definition 3 by sheet order, as document 01 fixes it: a trace shifts a configuration to another
@@ -73,8 +73,8 @@ pub record Breaks (S : Sheet) (R : Leading) (w : List Event) (i : ℕ) : Type 0 
   pub there : i < length (S .triples)
   pub inState : tripleIn S i .state ≡ before .main
   pub ofUnit : tripleIn S i .unit ≡ entry .unit
-  -- (c): the entry's values satisfy the precondition
-  pub precondition : meets (S .common) (tripleIn S i .precondition) (environment (entry .values) [] []) ≡ true
+  -- (c): the entry's values satisfy the precondition, with the monitor variables "as they stood before the event" (document 02, request 13)
+  pub precondition : meets (S .common) (tripleIn S i .precondition) (seen entry before) ≡ true
   -- (d): the exit's values do not satisfy the postcondition
   pub postcondition : meets (S .common) (tripleIn S i .postcondition) (environment (exit .values) [] (entry .values)) ≡ false
 

@@ -146,7 +146,6 @@ pub record GoodTriple (C : Common) (t : Triple) : Type 0 where
   pub precondition : t .precondition < length (C .conditions)
   pub postcondition : t .postcondition < length (C .conditions)
   pub noEntry : namesEntry C (conditionIn C (t .precondition)) ≡ false
-  pub noMonitor : namesMonitor C (conditionIn C (t .precondition)) ≡ false
   pub noMonitorAfter : namesMonitor C (conditionIn C (t .postcondition)) ≡ false
 
 pub record GoodTemplate (C : Common) (t : Template) : Type 0 where
@@ -160,7 +159,6 @@ pub record GoodPair (C : Common) (rs : List Template) (t : Transition) (p : Pair
   pub template : p .template < length rs
   pub unit : getD rs (p .template) noTemplate .unit ≡ t .unit
   pub noEntry : namesEntry C (conditionIn C (p .condition)) ≡ false
-  pub noMonitor : namesMonitor C (conditionIn C (p .condition)) ≡ false
 
 module _ (C : Common) where
   pub good-transition : (t : Transition) → transitionRanged (countsOf C) t ≡ true → usedWell C (record { number = t .condition; role = guard }) ≡ true → GoodTransition C t
@@ -173,8 +171,8 @@ module _ (C : Common) where
   unfolding tripleRanged every
   good-triple t h k =
       let (a, (b, (c, d))) = simp (and-iff, leb-iff) at h in
-      let ((e, f), (g, z)) = simp (and-iff, not-iff) at k in
-      record { state = a; unit = b; precondition = c; postcondition = d; noEntry = e; noMonitor = f; noMonitorAfter = g }
+      let (e, (f, z)) = simp (and-iff, not-iff) at k in
+      record { state = a; unit = b; precondition = c; postcondition = d; noEntry = e; noMonitorAfter = f }
 
   pub good-template : (t : Template) → templateRanged (countsOf C) t ≡ true → every (usedWell C) (networkLayout .lastUses t) ≡ true → GoodTemplate C t
   unfolding templateRanged every
@@ -186,8 +184,7 @@ module _ (C : Common) where
   unfolding pairRanged
   good-pair rs t p h k =
       let (a, (b, (c, d))) = simp (and-iff, leb-iff, eqb-iff) at h in
-      let (e, f) = simp (and-iff, not-iff) at k in
-      record { entry = a; condition = b; template = c; unit = d; noEntry = e; noMonitor = f }
+      record { entry = a; condition = b; template = c; unit = d; noEntry = simp not-iff at k }
 
 -- 6 and 7 in any layout, by number.
 module _ {T R : Type 0} {F : Layout T R} {s : List ℕ} (a : Accepted F s) (i : ℕ) where

@@ -97,14 +97,14 @@ namesMonitor C t = conditionWhich (λ c. conditionNames c isMonitor) (lentIn C) 
 
 abbrev pub suits : Common → List ℕ → Role → Bool
 suits C t guard = not (namesEntry C t)
-suits C t precondition = not (namesEntry C t) && not (namesMonitor C t)
+suits C t precondition = not (namesEntry C t)
 suits C t postcondition = not (namesMonitor C t)
 
 abbrev pub usedWell : Common → Use → Bool
 usedWell C u = suits C (conditionIn C (u .number)) (u .role)
 
--- 7: "value-at-entry in an action or transition's condition; value-at-entry or a monitor variable in a precondition; a monitor variable in a
--- postcondition"
+-- 7: "value-at-entry in an action or transition's condition; value-at-entry .. in a precondition; a monitor variable in a postcondition"; document 02, request
+-- 13: "7 no longer turns away monitor variables in preconditions and pairs"
 unfoldable pub roled : {T R : Type 0} → Layout T R → Common → List T → List R → Bool
 roled F C ts rs =
     every (λ a. not (actionWhich (λ r. actionNames r isAtEntry) (lentIn C) a)) (C .actions) && (every (λ t. every (usedWell C) (F .transitionUses t)) ts && every (λ r. every (usedWell C) (F .lastUses r)) rs)

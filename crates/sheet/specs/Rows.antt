@@ -38,11 +38,11 @@ abbrev pub cardA : List ℕ
 cardA =
     0x00 ∷ 0x44 ∷ 0x03 ∷ 0x02 ∷ 0x01 ∷ 0x02 ∷ 0x00 ∷ 0x00 ∷ 0x00 ∷ 0x00 ∷ 0x06 ∷ 0x02 ∷ 0x03 ∷ 0x01 ∷ 0x00 ∷ 0x01 ∷ 0x00 ∷ 0x00 ∷ 0x05 ∷ 0x05 ∷ 0x11 ∷ 0x01 ∷ 0x13 ∷ 0x00 ∷ 0x00 ∷ 0x01 ∷ 0x00 ∷ 0x00 ∷ 0x01 ∷ 0x00 ∷ 0x00 ∷ 0x01 ∷ 0x00 ∷ 0x00 ∷ 0x04 ∷ 0x02 ∷ 0x01 ∷ 0x00 ∷ 0x00 ∷ 0x00 ∷ 0x00 ∷ 0x00 ∷ 0x00 ∷ 0x00 ∷ 0x03 ∷ 0x00 ∷ 0x01 ∷ 0x01 ∷ 0x00 ∷ 0x00 ∷ 0x01 ∷ 0x01 ∷ 0x00 ∷ 0x04 ∷ 0x00 ∷ 0x00 ∷ 0x00 ∷ 0x00 ∷ 0x00 ∷ 0x00 ∷ 0x05 ∷ 0x01 ∷ 0x00 ∷ 0x01 ∷ 0x00 ∷ 0x00 ∷ 0x00 ∷ 0x01 ∷ []
 
--- A sheet with a bad state and a variable, 57 bytes: state 2 is bad, and an exit of unit 1 leads there; entries of unit 0 are counted; of both units the value at exit
--- has to be the one at entry.
+-- A sheet with a bad state and a variable, 70 bytes: state 2 is bad, and an exit of unit 1 leads there; entries of unit 0 are counted; of both units the value at exit
+-- has to be the one at entry, which triple 2 asks again of unit 0, but only while the variable is below 1.
 abbrev pub sheetB : List ℕ
 sheetB =
-    0x00 ∷ 0x39 ∷ 0x01 ∷ 0x03 ∷ 0x02 ∷ 0x01 ∷ 0x01 ∷ 0x00 ∷ 0x00 ∷ 0x04 ∷ 0x02 ∷ 0x02 ∷ 0x02 ∷ 0x02 ∷ 0x00 ∷ 0x00 ∷ 0x00 ∷ 0x00 ∷ 0x01 ∷ 0x00 ∷ 0x05 ∷ 0x05 ∷ 0x11 ∷ 0x00 ∷ 0x13 ∷ 0x00 ∷ 0x00 ∷ 0x09 ∷ 0x00 ∷ 0x14 ∷ 0x12 ∷ 0x00 ∷ 0x10 ∷ 0x00 ∷ 0x00 ∷ 0x00 ∷ 0x01 ∷ 0x00 ∷ 0x00 ∷ 0x00 ∷ 0x00 ∷ 0x01 ∷ 0x00 ∷ 0x00 ∷ 0x01 ∷ 0x01 ∷ 0x00 ∷ 0x00 ∷ 0x02 ∷ 0x00 ∷ 0x00 ∷ 0x00 ∷ 0x01 ∷ 0x00 ∷ 0x01 ∷ 0x00 ∷ 0x01 ∷ []
+    0x00 ∷ 0x46 ∷ 0x01 ∷ 0x03 ∷ 0x02 ∷ 0x01 ∷ 0x01 ∷ 0x00 ∷ 0x00 ∷ 0x04 ∷ 0x03 ∷ 0x02 ∷ 0x02 ∷ 0x03 ∷ 0x00 ∷ 0x00 ∷ 0x00 ∷ 0x00 ∷ 0x01 ∷ 0x00 ∷ 0x05 ∷ 0x05 ∷ 0x11 ∷ 0x00 ∷ 0x13 ∷ 0x00 ∷ 0x08 ∷ 0x04 ∷ 0x12 ∷ 0x00 ∷ 0x10 ∷ 0x00 ∷ 0x00 ∷ 0x00 ∷ 0x01 ∷ 0x00 ∷ 0x09 ∷ 0x00 ∷ 0x14 ∷ 0x12 ∷ 0x00 ∷ 0x10 ∷ 0x00 ∷ 0x00 ∷ 0x00 ∷ 0x01 ∷ 0x00 ∷ 0x00 ∷ 0x00 ∷ 0x00 ∷ 0x01 ∷ 0x00 ∷ 0x00 ∷ 0x01 ∷ 0x01 ∷ 0x00 ∷ 0x00 ∷ 0x02 ∷ 0x00 ∷ 0x00 ∷ 0x00 ∷ 0x01 ∷ 0x00 ∷ 0x01 ∷ 0x00 ∷ 0x01 ∷ 0x00 ∷ 0x00 ∷ 0x02 ∷ 0x01 ∷ []
 
 -- Other bytes behind their length: the header from the version to the bad states, the initial values, and the tables with their counts.
 abbrev pub built : List ℕ → List ℕ → List (List ℕ) → List (List ℕ) → List (List ℕ) → List (List ℕ) → List ℕ
@@ -171,11 +171,11 @@ rows =
     network (set networkA 52 2 ∷ []) 6 (set networkA 52 3 ∷ set networkA 51 1 ∷ set networkA 42 2 ∷ []) ∷
     -- 6 "includes pairs on an exit, and a template of another unit than its transition's"
     network (set networkA 33 2 ∷ set networkA 4 2 ∷ []) 6 (set networkA 33 3 ∷ set networkA 34 1 ∷ set networkA 27 1 ∷ set (set networkA 4 2) 51 1 ∷ []) ∷
-    -- 7: "value-at-entry in an action or transition's condition; value-at-entry or a monitor variable in a precondition; a monitor variable in a
-    -- postcondition"; "pairs count as preconditions"
+    -- 7: "value-at-entry in an action or transition's condition; value-at-entry .. in a precondition; a monitor variable in a postcondition"; "pairs count as
+    -- preconditions"; request 13: "7 no longer turns away monitor variables in preconditions and pairs"
     sheet (action 1 (assign 17 0) ∷ []) 7 (action 1 (assign 19 0) ∷ []) ∷
     sheet (roles atEntry 0 0 1 ∷ []) 7 (roles atEntry 1 0 0 ∷ roles atEntry 0 1 0 ∷ []) ∷
-    sheet (roles monitored 1 0 0 ∷ []) 7 (roles monitored 0 1 0 ∷ roles monitored 0 0 1 ∷ []) ∷
+    sheet (roles monitored 1 1 0 ∷ []) 7 (roles monitored 0 0 1 ∷ []) ∷
     network (set networkA 33 0 ∷ []) 7 (set networkA 33 1 ∷ set networkA 29 1 ∷ []) ∷
     -- 8: "over four triples of one state and unit"
     sheet (triples (fours 1) ∷ triples (fours 2) ∷ []) 8 (triples (take 1 (four 0) ++ four 0) ∷ triples (fours 2 ++ take 1 (four 0)) ∷ []) ∷
@@ -202,7 +202,7 @@ rows =
     -- 7
     network (action 3 (assign 17 0) ∷ []) 7 (action 3 (assign 19 0) ∷ []) ∷
     network (networkRoles 3 atEntry 0 0 1 ∷ networkRoles 2 atEntry 0 0 1 ∷ []) 7 (networkRoles 3 atEntry 1 0 0 ∷ networkRoles 3 atEntry 0 1 0 ∷ networkRoles 2 atEntry 1 0 0 ∷ networkRoles 2 atEntry 0 1 0 ∷ []) ∷
-    network (networkRoles 3 monitored 1 0 0 ∷ networkRoles 2 monitored 1 0 0 ∷ []) 7 (networkRoles 3 monitored 0 1 0 ∷ networkRoles 3 monitored 0 0 1 ∷ networkRoles 2 monitored 0 1 0 ∷ networkRoles 2 monitored 0 0 1 ∷ []) ∷
+    network (networkRoles 3 monitored 1 1 0 ∷ networkRoles 2 monitored 1 1 0 ∷ []) 7 (networkRoles 3 monitored 0 0 1 ∷ networkRoles 2 monitored 0 0 1 ∷ []) ∷
     -- the longest
     sheet (longestSheet ∷ []) 1 ((longestSheet ++ 0 ∷ []) ∷ []) ∷
     network (longestNetwork ∷ []) 1 ((longestNetwork ++ 0 ∷ []) ∷ []) ∷

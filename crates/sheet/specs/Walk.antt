@@ -68,14 +68,11 @@ namesAt p s index n L i = ltb i n && conditionWhich (λ c. conditionNames c p) L
 abbrev pub guardSuits : List ℕ → List ℕ → ℕ → Lent → Transition → Bool
 guardSuits s index n L t = not (namesAt isAtEntry s index n L (t .condition))
 
-abbrev pub preconditionSuits : List ℕ → List ℕ → ℕ → Lent → ℕ → Bool
-preconditionSuits s index n L i = not (namesAt isAtEntry s index n L i) && not (namesAt isMonitor s index n L i)
-
 abbrev pub tripleSuits : List ℕ → List ℕ → ℕ → Lent → Triple → Bool
-tripleSuits s index n L t = preconditionSuits s index n L (t .precondition) && not (namesAt isMonitor s index n L (t .postcondition))
+tripleSuits s index n L t = not (namesAt isAtEntry s index n L (t .precondition)) && not (namesAt isMonitor s index n L (t .postcondition))
 
 abbrev pub pairSuits : List ℕ → List ℕ → ℕ → Lent → Pair → Bool
-pairSuits s index n L p = preconditionSuits s index n L (p .condition)
+pairSuits s index n L p = not (namesAt isAtEntry s index n L (p .condition))
 
 abbrev pub pairedSuits : List ℕ → List ℕ → ℕ → Lent → Paired → Bool
 pairedSuits s index n L t = guardSuits s index n L (t .base) && every (pairSuits s index n L) (t .pairs)

@@ -6,7 +6,7 @@ ghost use lib.ListN.{drop};
 ghost use Rattle.condition.specs.Tree.{isMonitor, isAtEntry};
 ghost use Rattle.sheet.specs.Table.{table, every};
 ghost use Rattle.sheet.specs.Decode.{transitionForm, tripleForm, pairForm, pairedForm, templateForm};
-ghost use Rattle.sheet.specs.Walk.{namesAt, guardSuits, preconditionSuits, tripleSuits, pairSuits, pairedSuits, templateSuits};
+ghost use Rattle.sheet.specs.Walk.{namesAt, guardSuits, tripleSuits, pairSuits, pairedSuits, templateSuits};
 use crate::Pair;
 use crate::Template;
 use crate::Transition;
@@ -45,13 +45,6 @@ fn names_monitor(s: &[u8], index: &[u32; 161], conditions: usize, lent: Lent, i:
     }
 }
 
-fn precondition_suits(s: &[u8], index: &[u32; 161], conditions: usize, lent: Lent, i: u8) -> bool
-    requires { ⌜ conditions ≤ 161 ⌝ }
-    ensures { λ r. ⌜ r ≡ preconditionSuits (now (s .entry)) (now (index .entry)) conditions lent i ⌝ }
-{
-    !names_entry(s, index, conditions, lent, i) & !names_monitor(s, index, conditions, lent, i)
-}
-
 fn guard_suits(s: &[u8], index: &[u32; 161], conditions: usize, lent: Lent, t: Transition) -> bool
     requires { ⌜ conditions ≤ 161 ⌝ }
     ensures { λ r. ⌜ r ≡ guardSuits (now (s .entry)) (now (index .entry)) conditions lent t ⌝ }
@@ -63,7 +56,7 @@ fn triple_suits(s: &[u8], index: &[u32; 161], conditions: usize, lent: Lent, t: 
     requires { ⌜ conditions ≤ 161 ⌝ }
     ensures { λ r. ⌜ r ≡ tripleSuits (now (s .entry)) (now (index .entry)) conditions lent t ⌝ }
 {
-    precondition_suits(s, index, conditions, lent, t.precondition)
+    !names_entry(s, index, conditions, lent, t.precondition)
         & !names_monitor(s, index, conditions, lent, t.postcondition)
 }
 
@@ -71,7 +64,7 @@ fn pair_suits(s: &[u8], index: &[u32; 161], conditions: usize, lent: Lent, p: Pa
     requires { ⌜ conditions ≤ 161 ⌝ }
     ensures { λ r. ⌜ r ≡ pairSuits (now (s .entry)) (now (index .entry)) conditions lent p ⌝ }
 {
-    precondition_suits(s, index, conditions, lent, p.condition)
+    !names_entry(s, index, conditions, lent, p.condition)
 }
 
 fn template_suits(s: &[u8], index: &[u32; 161], conditions: usize, lent: Lent, t: Template) -> bool

@@ -16,7 +16,8 @@ pub record Configuration : Type 0 where
   pub main : ℕ
   pub variables : List ℕ
 
--- "A condition on a transition sees the event's values and the monitor variables before the action."
+-- "A condition on a transition sees the event's values and the monitor variables before the action"; a precondition "reads them as they stood before the
+-- event" (document 02, request 13)
 abbrev pub seen : Event → Configuration → Environment
 seen e k = environment (e .values) (k .variables) []
 

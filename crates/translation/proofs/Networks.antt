@@ -132,7 +132,6 @@ module _ (C : Common) where
     precondition = omega (arith, g .precondition, length-added (0 ∷ []) (C .conditions));
     postcondition = omega (arith, g .postcondition, length-added (0 ∷ []) (C .conditions));
     noEntry = rw (getD-added (0 ∷ []) (C .conditions) (t .precondition)) (g .noEntry);
-    noMonitor = rw (getD-added (0 ∷ []) (C .conditions) (t .precondition)) (g .noMonitor);
     noMonitorAfter = rw (getD-added (0 ∷ []) (C .conditions) (t .postcondition)) (g .noMonitorAfter);
   }
 
@@ -180,7 +179,7 @@ module _ (C : Common) (rs : List Template) where
 
   pair-asked : {t : Transition} {p : Pair} → GoodPair C rs t p → pairAsked t p ≡ true
   unfolding pairRanged
-  pair-asked g = simp (and-iff, leb-iff, eqb-iff, not-iff) ((g .entry, (g .condition, (g .template, g .unit))), (g .noEntry, g .noMonitor))
+  pair-asked g = simp (and-iff, leb-iff, eqb-iff, not-iff) ((g .entry, (g .condition, (g .template, g .unit))), g .noEntry)
 
   transition-asked : (t : Transition) (l : List Pair) → GoodTransition C t → length l ≤ 4 → every (pairAsked t) l ≡ true → asked (record { base = t; pairs = l }) ≡ true
   unfolding transitionRanged every
@@ -207,7 +206,6 @@ module _ (S : Sheet) (g : GoodSheet S) where
         template = omega (arith, h, length-map (S .triples) templateOf);
         unit = rw (zero-add m, List·getD-map templateOf (S .triples) m noTriple) f;
         noEntry = v .noEntry;
-        noMonitor = v .noMonitor;
       }))
 
   paired-asked : (t : Transition) → GoodTransition C t → t .kind ≡ 0 → asked C rs (record { base = t; pairs = pairsOf S (t .from) (t .unit) }) ≡ true

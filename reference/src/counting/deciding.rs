@@ -12,8 +12,9 @@ use crate::implementation::state::{Call, Common};
 use crate::making::scripts::script::{visit, Page};
 use crate::making::wide::{orders, FIRST_UNIT, LAST_VALUE, LAST_VARIABLE};
 
-/// Longer logs are not looked at, which saves time.
-const MOST_RECORDS: usize = 40;
+/// Longer logs are not looked at, which saves time; on wide rules these.
+const MOST_RECORDS: usize = 60;
+const MOST_WIDE_RECORDS: usize = 40;
 /// Numbers from here on have a high byte.
 const OVER_A_BYTE: u16 = 256;
 
@@ -146,7 +147,7 @@ impl Oversight {
         match self {
             Oversight::ProgramValue => &[STATE, VARIABLE, ARMED, TRIPLE],
             Oversight::KeptValue => &[TRIPLE],
-            Oversight::Variable => &[STATE, VARIABLE],
+            Oversight::Variable => &[STATE, VARIABLE, ARMED],
             Oversight::Byte(..) => &[],
             Oversight::Unit => &[STATE, ARMED],
         }
@@ -234,7 +235,7 @@ fn is_wide<R: Rules>(rules: &R) -> bool {
 }
 
 fn is_looked_at<R: Rules>(rules: &R, records: &[Record]) -> bool {
-    is_wide(rules) && records.len() <= MOST_RECORDS
+    is_wide(rules) && records.len() <= MOST_WIDE_RECORDS
 }
 
 /// What occurs in a run from the fresh state.
@@ -260,8 +261,15 @@ pub fn of_log<R: Narrow>(rules: &R, log: &[u8]) -> Vec<String> {
     records.map_or(Vec::new(), |records| of_run(rules, &records))
 }
 
+/// The records of a log; none where it is no log, or a long one.
+pub(crate) fn short_log<R: Rules>(rules: &R, log: &[u8]) -> Vec<Record> {
+    let records = read_log(log, rules.machine().header.program);
+    let short = |records: &Vec<Record>| records.len() <= MOST_RECORDS;
+    records.ok().filter(short).unwrap_or_default()
+}
+
 /// Sees each record, the state before it and the answer, up to one that is refused.
-fn each_step<R: Rules>(
+pub(crate) fn each_step<R: Rules>(
     rules: &R,
     records: &[Record],
     mut see: impl FnMut(&R::State, &Record, &Answer<R>),

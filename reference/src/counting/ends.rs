@@ -1,18 +1,16 @@
 //! Whether plus or minus stopping at an end of the signed range decides: what rules or an expression
 //! answer is another thing where the operator turns round there, as it did before document 02's slip 2.
 
-use crate::counting::deciding::{parts, ARMED, STATE, TRIPLE, VARIABLE};
+use crate::counting::deciding::{each_step, parts, short_log, ARMED, STATE, TRIPLE, VARIABLE};
 use crate::framing::script_frames::Rules;
 use crate::implementation::expr::{Action, Condition, Value};
 use crate::implementation::machine::Machine;
 use crate::implementation::network::{Network, Version};
-use crate::implementation::run::{read_log, run_records, Record};
+use crate::implementation::run::{run_records, Record};
 use crate::implementation::sheet::Sheet;
 
 /// Longer sums and differences are not turned round, since their operands are written several times.
 const LONGEST: usize = 1_000;
-/// Longer logs are not looked at, which saves time.
-const MOST_RECORDS: usize = 60;
 
 #[derive(Clone, Copy, Debug, PartialEq, Eq)]
 pub enum Operator {
@@ -245,19 +243,12 @@ impl<R: Written> Turned<R> {
         format!("{} {of}: {label}", self.rules.name())
     }
 
-    /// The records of a log that are looked at: of one that is none, or too long, there are none.
-    fn records(&self, log: &[u8]) -> Vec<Record> {
-        let records = read_log(log, self.rules.machine().header.program);
-        let short = |records: &Vec<Record>| records.len() <= MOST_RECORDS;
-        records.ok().filter(short).unwrap_or_default()
-    }
-
     /// What decides in the run of a log.
     pub fn of_log(&self, log: &[u8]) -> Vec<String> {
         if self.others.is_empty() {
             return Vec::new();
         }
-        let records = self.records(log);
+        let records = short_log(&self.rules, log);
         let outcome = run_records(&self.rules, &records);
         let others = self.others.iter();
         let differ = others.filter(|(_, other)| run_records(other, &records) != outcome);
@@ -286,16 +277,11 @@ impl<R: Written> Turned<R> {
     /// The same of a log's records, offered one by one up to one that is refused.
     pub fn of_steps(&self, log: &[u8]) -> Vec<String> {
         let mut labels = Vec::new();
-        if self.others.is_empty() {
-            return labels;
-        }
-        let mut state = self.rules.fresh();
-        for record in self.records(log) {
-            labels.extend(self.of_event(&state, &record));
-            let Ok(next) = self.rules.event(&state, &record.event()) else {
-                break;
-            };
-            state = next;
+        if !self.others.is_empty() {
+            let records = short_log(&self.rules, log);
+            each_step(&self.rules, &records, |state, record, _| {
+                labels.extend(self.of_event(state, record));
+            });
         }
         labels
     }

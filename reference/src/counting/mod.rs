@@ -2,4 +2,5 @@
 
 pub mod deciding;
 pub mod ends;
+pub mod preconditions;
 pub mod tally;

@@ -1,7 +1,8 @@
 //! Makes many cases from a fixed seed and counts what occurred in them.
 
 use crate::counting::deciding::{self, named, of_log, of_steps};
-use crate::counting::ends::{self, Turned, Written};
+use crate::counting::ends::{self, Turned};
+use crate::counting::preconditions::{self, Arming};
 use crate::implementation::engine::Engine;
 use crate::implementation::network::{Network, Version};
 use crate::implementation::program::{self, MOST_INPUT};
@@ -97,6 +98,7 @@ pub fn wanted() -> Vec<String> {
     labels.push("translation: done".into());
     labels.extend(wanted_of_version_3());
     labels.extend(ends::wanted());
+    labels.extend(preconditions::wanted());
     labels
 }
 
@@ -164,7 +166,7 @@ pub fn tally(seed: u64, count: usize) -> Result<Tally, String> {
         count_card_run(&case, &mut tally)?;
         count_network_run(&mut random, &case, &mut tally);
         count_events(&mut random, &case, &mut tally);
-        count_ends(&case, &mut tally);
+        count_on_all(&case, &mut tally);
         for version in [Version::Two, Version::Three] {
             count_translation(&mut random, version, &case.sheet, &mut tally)?;
         }
@@ -233,24 +235,33 @@ fn count_network_run(random: &mut Random, case: &RunCase, tally: &mut Tally) {
     if let Ok(network) = Network::read(&own.network) {
         tally.add_all(named("network", "run", of_log(&network, &own.log)));
         tally.add_all(Turned::of(&network).of_log(&own.log));
+        tally.add_all(preconditions::of_log(&network, &own.log));
     }
 }
 
-/// Where an end of the range decides, on the sheet and on its networks, in the run and in its events.
-fn count_ends(case: &RunCase, tally: &mut Tally) {
+/// Where an end of the range decides, or how preconditions read variables: on the sheet and on its
+/// networks, in the run and in its events.
+fn count_on_all(case: &RunCase, tally: &mut Tally) {
     let Ok(sheet) = Sheet::read(&case.sheet) else {
         return;
     };
     let network = sheet.translate();
-    tally.add_all(ends_of(&Turned::of(&sheet), &case.log));
-    tally.add_all(ends_of(&Turned::of(&network), &case.log));
+    tally.add_all(of_engine(&sheet, &case.log));
+    tally.add_all(of_engine(&network, &case.log));
     if let Ok(card) = Network::read(&network.separated().bytes()) {
-        tally.add_all(ends_of(&Turned::of(&card), &case.log));
+        tally.add_all(of_engine(&card, &case.log));
     }
 }
 
-fn ends_of<R: Written>(turned: &Turned<R>, log: &[u8]) -> Vec<String> {
-    [turned.of_log(log), turned.of_steps(log)].concat()
+fn of_engine<R: Arming>(rules: &R, log: &[u8]) -> Vec<String> {
+    let turned = Turned::of(rules);
+    [
+        turned.of_log(log),
+        turned.of_steps(log),
+        preconditions::of_log(rules, log),
+        preconditions::of_steps(rules, log),
+    ]
+    .concat()
 }
 
 // ---- Single events ----------------------------------------------------------------------------

@@ -153,22 +153,19 @@ fn close_up<T: Copy + Default>(places: &mut [T], place: usize) -> T {
 }
 
 /// Whether a transition is the one for this event: state, kind, unit, then its condition.
-fn is_enabled(t: &Transition, common: &Common, kind: Kind, event: &Event, m: &Machine) -> bool {
-    let lent = Lent {
-        program: event.values,
-        monitor: &common.variables,
-        kept: &[],
-    };
-    t.from == common.main
+fn is_enabled(t: &Transition, before: &Common, kind: Kind, event: &Event, m: &Machine) -> bool {
+    t.from == before.main
         && t.kind == kind
         && t.unit == event.unit
-        && m.condition_holds(t.condition, &lent)
+        && holds_before(t.condition, before, event, m)
 }
 
-fn precondition_holds(condition: u8, event: &Event, machine: &Machine) -> bool {
+/// Whether a condition holds with the event's values and the variables as they stood before the event:
+/// a transition's, and by document 02's slip 13 a precondition and a pair's too.
+fn holds_before(condition: u8, before: &Common, event: &Event, machine: &Machine) -> bool {
     let lent = Lent {
         program: event.values,
-        monitor: &[],
+        monitor: &before.variables,
         kept: &[],
     };
     machine.condition_holds(condition, &lent)
@@ -214,7 +211,7 @@ impl Engine for Sheet {
         next.common.position += 1;
         let failing = match taken {
             Taken::Entry => {
-                self.arm(&mut next, event);
+                self.arm(&state.common, &mut next, event);
                 None
             }
             Taken::Exit(place) => self.disarm(&mut next, place, event),
@@ -233,12 +230,12 @@ impl Engine for Sheet {
 }
 
 impl Sheet {
-    /// Opens the call, with the triples of the present state whose preconditions hold.
-    fn arm(&self, next: &mut SheetState, event: &Event) {
+    /// Opens the call, with the triples of the state before the event whose preconditions hold.
+    fn arm(&self, before: &Common, next: &mut SheetState, event: &Event) {
         let mut armed = Armed::default();
-        for number in self.triples_of(next.common.main, event.unit) {
+        for number in self.triples_of(before.main, event.unit) {
             let precondition = self.triples[usize::from(number)].precondition;
-            let holds = precondition_holds(precondition, event, &self.machine);
+            let holds = holds_before(precondition, before, event, &self.machine);
             let free = armed.triples.get_mut(usize::from(armed.count));
             if let (true, Some(free)) = (holds, free) {
                 *free = number;
@@ -310,7 +307,7 @@ impl Engine for Network {
             )
         });
         for pair in creating.iter().flat_map(|c| &c.pairs) {
-            if precondition_holds(pair.condition, event, &self.machine) {
+            if holds_before(pair.condition, &state.common, event, &self.machine) {
                 next.create(event.call, pair.template);
             }
         }

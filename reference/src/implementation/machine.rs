@@ -362,10 +362,10 @@ pub enum Role {
     Postcondition,
 }
 
+/// Document 02, slip 13: a precondition may name monitor variables, as a guard may.
 fn fits(role: Role, holds: Holds) -> bool {
     match role {
-        Role::Guard => !holds.at_entry,
-        Role::Precondition => !holds.at_entry && !holds.monitor,
+        Role::Guard | Role::Precondition => !holds.at_entry,
         Role::Postcondition => !holds.monitor,
     }
 }

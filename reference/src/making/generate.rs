@@ -27,8 +27,8 @@ pub enum Size {
 /// Which conditions may stand in which role.
 #[derive(Default)]
 struct Pool {
-    guards: Vec<u8>,
-    preconditions: Vec<u8>,
+    /// Guards and preconditions.
+    before: Vec<u8>,
     postconditions: Vec<u8>,
 }
 
@@ -100,10 +100,7 @@ fn add_conditions(random: &mut Random, size: Size, draft: &mut SheetDraft) -> Po
         }
         let holds = condition.mentions();
         if !holds.at_entry {
-            pool.guards.push(number);
-        }
-        if !holds.at_entry && !holds.monitor {
-            pool.preconditions.push(number);
+            pool.before.push(number);
         }
         if !holds.monitor {
             pool.postconditions.push(number);
@@ -169,7 +166,7 @@ fn filled_action(action: &Action) -> Vec<u8> {
 
 fn add_transitions(random: &mut Random, size: Size, pool: &Pool, draft: &mut SheetDraft) {
     let actions = draft.front.actions.len();
-    if pool.guards.is_empty() || actions == 0 {
+    if pool.before.is_empty() || actions == 0 {
         return;
     }
     for _ in 0..count(random, size, 0, 10, 64) {
@@ -178,7 +175,7 @@ fn add_transitions(random: &mut Random, size: Size, pool: &Pool, draft: &mut She
             near(random, draft.front.states),
             kind,
             near(random, draft.front.units),
-            random.pick(&pool.guards),
+            random.pick(&pool.before),
             random.below(actions) as u8,
             target(random, kind, draft),
         ];
@@ -203,7 +200,7 @@ fn target(random: &mut Random, kind: u8, draft: &SheetDraft) -> u8 {
 }
 
 fn add_triples(random: &mut Random, size: Size, pool: &Pool, draft: &mut SheetDraft) {
-    if pool.preconditions.is_empty() || pool.postconditions.is_empty() {
+    if pool.before.is_empty() || pool.postconditions.is_empty() {
         return;
     }
     let wanted = count(random, size, 0, 6, 32);
@@ -217,7 +214,7 @@ fn add_triples(random: &mut Random, size: Size, pool: &Pool, draft: &mut SheetDr
             .filter(|t| t[..2] == [state, unit])
             .count();
         if draft.triples.len() < wanted && together < 4 {
-            let precondition = random.pick(&pool.preconditions);
+            let precondition = random.pick(&pool.before);
             draft.triple(state, unit, precondition, random.pick(&pool.postconditions));
         }
     }
@@ -521,19 +518,18 @@ fn break_role(random: &mut Random, draft: &mut SheetDraft) {
     draft.transitions.truncate(63);
     draft.triples.truncate(31);
     let always = draft.condition(&Condition::True);
-    let leaf = if program && random.chance(1, 2) {
-        Value::AtEntry(0)
-    } else if monitor {
-        Value::Monitor(0)
-    } else {
-        Value::AtEntry(0)
+    let at_entry = !monitor || (program && random.chance(2, 3));
+    let leaf = || {
+        Box::new(match at_entry {
+            true => Value::AtEntry(0),
+            false => Value::Monitor(0),
+        })
     };
-    let at_entry = leaf == Value::AtEntry(0);
-    let (a, b) = (Box::new(leaf.clone()), Box::new(leaf));
-    let wrong = draft.condition(&Condition::Equal(a, b));
+    let wrong = draft.condition(&Condition::Equal(leaf(), leaf()));
     match random.below(3) {
+        // A monitor variable is wrong in a postcondition alone.
+        _ if !at_entry => draft.triple(0, 0, always, wrong),
         0 => draft.triple(0, 0, wrong, always),
-        1 if !at_entry => draft.triple(0, 0, always, wrong),
         1 if monitor => draft.front.actions.push(vec![0, 19, 0]),
         _ => {
             let action = draft.action(&Action::default());
@@ -581,7 +577,8 @@ pub fn break_network(random: &mut Random, draft: &NetworkDraft) -> Vec<u8> {
     draft.bytes()
 }
 
-/// A pair, a template or a guard whose condition holds what its role does not allow.
+/// A pair, a template or a guard whose condition holds what its role does not allow, or what another
+/// role does not.
 fn break_network_role(random: &mut Random, draft: &mut NetworkDraft) {
     let operator = random.pick(&[18, 19]);
     draft

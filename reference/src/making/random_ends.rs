@@ -67,7 +67,7 @@ fn leaf(random: &mut Random, role: Role) -> Value {
     let (program, monitor) = (PROGRAM.into(), MONITOR.into());
     match (role, random.below(5)) {
         (_, 0) => Value::Constant(word(random)),
-        (Role::Guard, 1..=3) => Value::Monitor(random.below(monitor) as u8),
+        (Role::Guard | Role::Precondition, 1..=3) => Value::Monitor(random.below(monitor) as u8),
         (Role::Postcondition, 1..=3) => Value::AtEntry(random.below(program) as u8),
         _ => Value::Program(random.below(program) as u8),
     }

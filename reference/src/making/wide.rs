@@ -75,7 +75,7 @@ fn constant(random: &mut Random) -> Box<Value> {
 /// The last of the variables that a role may name.
 fn last(random: &mut Random, role: Role) -> Box<Value> {
     let value = match (role, random.chance(2, 3)) {
-        (Role::Guard, true) => Value::Monitor(LAST_VARIABLE),
+        (Role::Guard | Role::Precondition, true) => Value::Monitor(LAST_VARIABLE),
         (Role::Postcondition, true) => Value::AtEntry(LAST_VALUE),
         _ => Value::Program(LAST_VALUE),
     };

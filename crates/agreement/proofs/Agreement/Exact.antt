@@ -23,7 +23,7 @@ use Rattle.monitor.specs.Sound.{rising}
 use Rattle.monitor.specs.Published as Published
 use Rattle.monitor.proofs.Demand2.Traces.{Leads, opening, Opened}
 use Rattle.monitor.proofs.Demand2.Calls.{held-opened, opened-held}
-use Rattle.monitor.proofs.Demand2.Broken.{Plain, armed-arms, arms-armed}
+use Rattle.monitor.proofs.Demand2.Broken.{armed-arms, arms-armed}
 use Rattle.monitor.proofs.States.Arming.{armed-rising}
 use Rattle.network.specs.declared.Checker.{Checker}
 use Rattle.network.specs.Network.{boundTo}
@@ -133,19 +133,19 @@ first-among (x ∷ l) d a (inr m) =
     rw apart (first-among l j a m)
 
 -- A checker is due just where the call held under its number has the triple armed.
-module _ (S : Sheet) (plain : Plain S) {w : List Event} {σ : Monitor.State} (t : Leads S w σ) (n i : ℕ) where
+module _ (S : Sheet) {w : List Event} {σ : Monitor.State} (t : Leads S w σ) (n i : ℕ) where
   due-held : Due S w n i → (a : Armed) × (first (ofNumber n) (σ .calls) ≡ some a) × (rising (a .armed) ≡ true) × Among i (a .armed)
   due-held d =
       let k = Published.reached S (d .w₁) in
       let a = opening S k (d .entry) in
       let o : Opened S n (initial S) w a = record { w₁ = d .w₁; entry = d .entry; w₂ = d .w₂; parts = d .parts; kind = d .isEntry; number = d .number; apart = d .apart; call = refl } in
-      (a, opened-held S t n a o, armed-rising S k (d .entry), arms-armed S plain k (d .entry) i (record { there = d .there; inState = d .inState; ofUnit = d .ofUnit; precondition = d .precondition }))
+      (a, opened-held S t n a o, armed-rising S k (d .entry), arms-armed S k (d .entry) i (record { there = d .there; inState = d .inState; ofUnit = d .ofUnit; precondition = d .precondition }))
 
   held-due : (a : Armed) → first (ofNumber n) (σ .calls) ≡ some a → Among i (a .armed) → Due S w n i
   held-due a h m =
       let o = held-opened S t n a h in
       let k = Published.reached S (o .w₁) in
-      let g = armed-arms S plain k (o .entry) i (subst (λ (b : Armed). Among i (b .armed)) (o .call) m) in
+      let g = armed-arms S k (o .entry) i (subst (λ (b : Armed). Among i (b .armed)) (o .call) m) in
       record { w₁ = o .w₁; entry = o .entry; w₂ = o .w₂; parts = o .parts; isEntry = o .kind; number = o .number; apart = o .apart; there = g .there; inState = g .inState; ofUnit = g .ofUnit; precondition = g .precondition }
 
   held-rising : (a : Armed) → first (ofNumber n) (σ .calls) ≡ some a → rising (a .armed) ≡ true
@@ -181,11 +181,11 @@ module _ (S : Sheet) (plain : Plain S) {w : List Event} {σ : Monitor.State} (t 
         (held-due a f (subst (λ (k : ℕ). Among k (a .armed)) ei j), v ∙ ap (λ (b : Armed). b .call .kept) (o .call))
 
 -- So they are exactly those due.
-pub exactly-held : (S : Sheet) → Plain S → {w : List Event} {σ : Monitor.State} → Leads S w σ → distinct (map (λ (a : Armed). a .call .number) (σ .calls)) ≡ true → length (armedRow (σ .calls)) ≤ 64 → Exactly S w (armedRow (σ .calls))
-exactly-held S plain t d few =
+pub exactly-held : (S : Sheet) {w : List Event} {σ : Monitor.State} → Leads S w σ → distinct (map (λ (a : Armed). a .call .number) (σ .calls)) ≡ true → length (armedRow (σ .calls)) ≤ 64 → Exactly S w (armedRow (σ .calls))
+exactly-held S t d few =
     record {
-      due = λ n i. (one-due S plain t n i d, due-one S plain t n i d);
-      once = λ n i. once-held S plain t n i d;
-      values = λ h m. values-held S plain t (h .number) (h .triple) d h m refl refl;
+      due = λ n i. (one-due S t n i d, due-one S t n i d);
+      once = λ n i. once-held S t n i d;
+      values = λ h m. values-held S t (h .number) (h .triple) d h m refl refl;
       few = few;
     }

@@ -129,5 +129,5 @@ module _ (S : Sheet) (plain : Plain S) where
         variables = ap (λ (k : Configuration). k .variables) (holds S t .configuration);
         calls = sym (map-map openCall (λ (a : Armed). a .call) (σ .calls)) ∙ ap (map openCall) (calls-open S t) ∙ map-map openCall openedBy (stillOpen u);
         checkers = ap armedRow (calls-are S t) ∙ due-row S u (initial S);
-        exactly = exactly-held S plain t d few;
+        exactly = exactly-held S t d few;
       }

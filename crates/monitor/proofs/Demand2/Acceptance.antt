@@ -1,18 +1,18 @@
 -- The published definition on the sheets that reading accepts. Assumes nothing.
-use mathlib.Core.Path.{_≡_, refl, _∙_}
+use mathlib.Core.Path.{_≡_, refl}
 use mathlib.Core.Bool.{Bool, true, false, _&&_, false≢true}
 use mathlib.Core.Option.{Option, none, some}
 use mathlib.Core.List.{List, []}
 use Prim.Native.Nat.{ℕ, _<_}
 use lib.ListN.{length}
-use Rattle.condition.specs.Tree.{Condition, conditionNames, isMonitor, isAtEntry}
+use Rattle.condition.specs.Tree.{Condition, conditionNames, isMonitor}
 use Rattle.condition.specs.Parse.{parseCondition}
 use Rattle.condition.specs.Meaning.{environment, holds}
 use Rattle.condition.specs.Answer.{sized, whether, conditionWhich}
-use Rattle.condition.proofs.Naming.{no-monitor-means, no-entry-means}
+use Rattle.condition.proofs.Naming.{no-monitor-means}
 use Rattle.sheet.specs.Parts.{Common}
 use Rattle.sheet.specs.Decode.{commonOf, sheetOf}
-use Rattle.sheet.specs.Reading.{lentIn, conditionIn, namesEntry, namesMonitor, reading, lastOf, sheetLayout}
+use Rattle.sheet.specs.Reading.{lentIn, conditionIn, namesMonitor, reading, lastOf, sheetLayout}
 use Rattle.sheet.specs.Bytes.{byte}
 use Rattle.sheet.specs.Log.{eventsOf}
 use Rattle.sheet.proofs.Accepted.{accepted, bounds, condition-formed, GoodTriple, sheet-triple}
@@ -37,12 +37,6 @@ module _ (C : Common) (i : ℕ) (formed : conditionWhich (λ _. true) (lentIn C)
       clear-of (sized (conditionIn C i)) (parseCondition (lentIn C) (conditionIn C i)) (λ c. conditionNames c isMonitor) (λ c. holds c (environment p m k)) (λ c. holds c (environment p m′ k)) formed h
       (no-monitor-means p m m′ k)
 
-  pub meets-no-entry : namesEntry C (conditionIn C i) ≡ false → (k′ : List ℕ) → meets C i (environment p m k) ≡ meets C i (environment p m k′)
-  unfolding meets conditionWhich
-  meets-no-entry h k′ =
-      clear-of (sized (conditionIn C i)) (parseCondition (lentIn C) (conditionIn C i)) (λ c. conditionNames c isAtEntry) (λ c. holds c (environment p m k)) (λ c. holds c (environment p m k′)) formed h
-      (no-entry-means p m k k′)
-
 -- Of an accepted sheet all that the published definition needs is known.
 pub accepted-plain : (s : List ℕ) → reading sheetLayout s ≡ 0 → Plain (sheetOf s)
 unfolding sheetOf
@@ -53,8 +47,6 @@ accepted-plain s h =
     let t : (i : ℕ) → i < length (lastOf sheetLayout s) → GoodTriple C (tripleIn (sheetOf s) i) = λ i l. sheet-triple a i noTriple l in
     record {
       startGood = bounds a .startGood;
-      precondition = λ i l p m k.
-          meets-no-monitor C (tripleIn (sheetOf s) i .precondition) (formed _) p m k (t i l .noMonitor) [] ∙ meets-no-entry C (tripleIn (sheetOf s) i .precondition) (formed _) p [] k (t i l .noEntry) [];
       postcondition = λ i l p m k. meets-no-monitor C (tripleIn (sheetOf s) i .postcondition) (formed _) p m k (t i l .noMonitorAfter) [];
     }
 

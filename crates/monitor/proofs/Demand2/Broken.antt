@@ -17,7 +17,7 @@ use Rattle.sheet.proofs.Tests.{and-iff, eqb-iff}
 use Rattle.sheet.proofs.Tables.{and-both}
 use Rattle.step.specs.Lists.{Among, first, keep}
 use Rattle.step.specs.Meets.{meets}
-use Rattle.step.specs.Moves.{Configuration}
+use Rattle.step.specs.Moves.{Configuration, seen}
 use Rattle.step.specs.Calls.{isEntry}
 use Rattle.step.proofs.OnLists.Lists.{none-some, kept-passes, passes-kept, number-passes, passes-number, least-none, least-some}
 use Rattle.monitor.specs.Monitor.{Armed, State, initial, tripleIn, arms, armedBy, fails, failing, ofNumber, refusal}
@@ -27,11 +27,9 @@ use Rattle.monitor.proofs.Demand2.Traces.{Leads, opening, Opened, snoc-
 use Rattle.monitor.proofs.Demand2.Calls.{held-opened, opened-held, unit-held, free}
 use Rattle.monitor.proofs.Demand2.StillOpen.{one}
 
--- What is needed of a sheet: it does not start in a bad state; a precondition sees the event's values only, a postcondition these and the kept ones.
+-- What is needed of a sheet: it does not start in a bad state; a postcondition sees the event's values and the kept ones, no monitor variable.
 pub record Plain (S : Sheet) : Type 0 where
   pub startGood : isBad (S .common .bad) (S .common .start) ≡ false
-  pub precondition : (i : ℕ) → i < length (S .triples) → (p m k : List ℕ)
-      → meets (S .common) (tripleIn S i .precondition) (environment p m k) ≡ meets (S .common) (tripleIn S i .precondition) (environment p [] [])
   pub postcondition : (i : ℕ) → i < length (S .triples) → (p m k : List ℕ)
       → meets (S .common) (tripleIn S i .postcondition) (environment p m k) ≡ meets (S .common) (tripleIn S i .postcondition) (environment p [] k)
 
@@ -40,7 +38,7 @@ pub record Arms (S : Sheet) (k : Configuration) (e : Event) (i : ℕ) : Type 0 w
   pub there : i < length (S .triples)
   pub inState : tripleIn S i .state ≡ k .main
   pub ofUnit : tripleIn S i .unit ≡ e .unit
-  pub precondition : meets (S .common) (tripleIn S i .precondition) (environment (e .values) [] []) ≡ true
+  pub precondition : meets (S .common) (tripleIn S i .precondition) (seen e k) ≡ true
 
 -- An exit closes a call for which the triple is armed and whose postcondition fails.
 abbrev pub Closes : Sheet → State → Event → ℕ → Type 0
@@ -61,21 +59,21 @@ armed-there S k e i a =
     let q : m ≡ i = omega arith in
     (omega arith, rw q at t)
 
+module _ (S : Sheet) (k : Configuration) (e : Event) (i : ℕ) where
+  pub armed-arms : Among i (armedBy S k e) → Arms S k e i
+  unfolding arms
+  armed-arms a =
+      let (h, t) = armed-there S k e i a in
+      let (x, (y, z)) = simp (and-iff, eqb-iff) at t in
+      record { there = h; inState = x; ofUnit = y; precondition = z }
+
+  pub arms-armed : Arms S k e i → Among i (armedBy S k e)
+  unfolding armedBy arms
+  arms-armed a =
+      passes-number (arms S k e) noTriple (S .triples) 0 i i (omega arith) (a .there)
+      (and-both (eq-eqb _ _ (a .inState)) (and-both (eq-eqb _ _ (a .ofUnit)) (a .precondition)))
+
 module _ (S : Sheet) (plain : Plain S) where
-  module _ (k : Configuration) (e : Event) (i : ℕ) where
-    pub armed-arms : Among i (armedBy S k e) → Arms S k e i
-    unfolding arms
-    armed-arms a =
-        let (h, t) = armed-there S k e i a in
-        let (x, (y, z)) = simp (and-iff, eqb-iff) at t in
-        record { there = h; inState = x; ofUnit = y; precondition = sym (plain .precondition i h (e .values) (k .variables) []) ∙ z }
-
-    pub arms-armed : Arms S k e i → Among i (armedBy S k e)
-    unfolding armedBy arms
-    arms-armed a =
-        passes-number (arms S k e) noTriple (S .triples) 0 i i (omega arith) (a .there)
-        (and-both (eq-eqb _ _ (a .inState)) (and-both (eq-eqb _ _ (a .ofUnit)) (plain .precondition i (a .there) (e .values) (k .variables) [] ∙ a .precondition)))
-
   module _ {w : List Event} {σ : State} (t : Leads S w σ) (e : Event) (h : refusal S σ e ≡ 0) (i : ℕ) where
     -- what the published definition finds broken after the event is what the monitor finds broken at it
     pub breaks-closes : Breaks S (inOrder S) (w ++ e ∷ []) i → Closes S σ e i
@@ -86,7 +84,7 @@ module _ (S : Sheet) (plain : Plain S) where
         let n : b .entry .number ≡ e .number = rw q (sym (b .sameNumber)) in
         let o : Opened S (e .number) (initial S) w a = record { w₁ = b .w₁; entry = b .entry; w₂ = b .w₂; parts = p; kind = b .isEntry; number = n; apart = rw n at (b .apart); call = refl } in
         let f = opened-held S t (e .number) a o in
-        let m = arms-armed (reached S (b .w₁)) (b .entry) i (record { there = b .there; inState = b .inState ∙ ap (λ (k : Configuration). k .main) (b .leads); ofUnit = b .ofUnit; precondition = b .precondition }) in
+        let m = arms-armed S (reached S (b .w₁)) (b .entry) i (record { there = b .there; inState = rw (b .leads) at (b .inState); ofUnit = b .ofUnit; precondition = rw (b .leads) at (b .precondition) }) in
         let g : meets (S .common) (tripleIn S i .postcondition) (environment (e .values) [] (b .entry .values)) ≡ false = rw q (b .postcondition) in (
           rw q (b .isExit),
           (a, f, passes-kept (fails S (σ .configuration) e (a .call)) (a .armed) i m (rw (plain .postcondition i (b .there) (e .values) (σ .configuration .variables) (b .entry .values), g))),
@@ -97,7 +95,7 @@ module _ (S : Sheet) (plain : Plain S) where
     closes-breaks (x, (a, f, m)) =
         let o = held-opened S t (e .number) a f in
         let (j, z) = kept-passes (fails S (σ .configuration) e (a .call)) (a .armed) i m in
-        let r = armed-arms (reached S (o .w₁)) (o .entry) i (rw (o .call) at j) in
+        let r = armed-arms S (reached S (o .w₁)) (o .entry) i (rw (o .call) at j) in
         let u = unit-held S t (e .number) e a h x refl f in
         record {
           w₁ = o .w₁;

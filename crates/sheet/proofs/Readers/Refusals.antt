@@ -21,8 +21,8 @@ use Rattle.sheet.specs.Bytes.{byte}
 use Rattle.sheet.specs.Table.{table, starts, fit, every}
 use Rattle.sheet.specs.Parts.{Paired}
 use Rattle.sheet.specs.Decode.{wide, textForm, transitionForm, tripleForm, pairedForm, templateForm, conditionsIn, actionsIn, transitionsIn, lastIn, lastAt, conditionsAt, actionsAt, transitionsAt, commonOf}
-use Rattle.sheet.specs.Reading.{together, transitionRanged, tripleRanged, templateRanged, countsOf, countsHold, Layout, Use, guard, precondition, postcondition, between, lentIn, conditionIn, usedWell, whole, counted, tabled, formed, ranged, roled, transitionsOf, lastOf, reading, sheetLayout, networkLayout}
-use Rattle.sheet.specs.Walk.{pairedRanged, within, Finds, conditionLengths, actionLengths, tablesOf, namesAt, guardSuits, preconditionSuits, tripleSuits, pairedSuits, templateSuits}
+use Rattle.sheet.specs.Reading.{together, transitionRanged, tripleRanged, templateRanged, countsOf, countsHold, Layout, Use, guard, precondition, postcondition, between, lentIn, conditionIn, namesEntry, usedWell, whole, counted, tabled, formed, ranged, roled, transitionsOf, lastOf, reading, sheetLayout, networkLayout}
+use Rattle.sheet.specs.Walk.{pairedRanged, within, Finds, conditionLengths, actionLengths, tablesOf, namesAt, guardSuits, tripleSuits, pairedSuits, templateSuits}
 use Rattle.sheet.proofs.Tests.{and-iff, leb-iff}
 use Rattle.sheet.proofs.Tables.{and-parts, and-both, and-assoc, and-true, length-records, indexed, every-same, every-map, every-weaker}
 
@@ -107,21 +107,19 @@ module _ (s : List ℕ) (few : byte s 10 ≤ 161) where
   unfolding commonOf
   by-number p i = names-number p s (conditionsIn s) (conditionsAt s) (lentIn (commonOf s)) i few
 
-  guard-well : (i : ℕ) → not (namesAt isAtEntry s numbered (conditionsIn s) (lentIn (commonOf s)) i) ≡ usedWell (commonOf s) (record { number = i; role = guard })
-  guard-well i = ap not (by-number isAtEntry i)
+  -- a transition's condition and a precondition
+  before-well : (i : ℕ) → not (namesAt isAtEntry s numbered (conditionsIn s) (lentIn (commonOf s)) i) ≡ not (namesEntry (commonOf s) (conditionIn (commonOf s) i))
+  before-well i = ap not (by-number isAtEntry i)
 
   after-well : (i : ℕ) → not (namesAt isMonitor s numbered (conditionsIn s) (lentIn (commonOf s)) i) ≡ usedWell (commonOf s) (record { number = i; role = postcondition })
   after-well i = ap not (by-number isMonitor i)
-
-  before-well : (i : ℕ) → preconditionSuits s numbered (conditionsIn s) (lentIn (commonOf s)) i ≡ usedWell (commonOf s) (record { number = i; role = precondition })
-  before-well i = ap₂ (λ (x y : Bool). not x && not y) (by-number isAtEntry i) (by-number isMonitor i)
 
   one-use : (u : Use) → usedWell (commonOf s) u ≡ every (usedWell (commonOf s)) (u ∷ [])
   unfolding every
   one-use u = sym (and-true (usedWell (commonOf s) u))
 
   pub guards-well : (l : List Transition) → every (guardSuits s numbered (conditionsIn s) (lentIn (commonOf s))) l ≡ every (λ t. every (usedWell (commonOf s)) (sheetLayout .transitionUses t)) l
-  guards-well l = every-same _ _ (λ t. guard-well (t .condition) ∙ one-use _) l
+  guards-well l = every-same _ _ (λ t. before-well (t .condition) ∙ one-use (record { number = t .condition; role = guard })) l
 
   pub triples-well : (l : List Triple) → every (tripleSuits s numbered (conditionsIn s) (lentIn (commonOf s))) l ≡ every (λ t. every (usedWell (commonOf s)) (sheetLayout .lastUses t)) l
   unfolding every
@@ -132,7 +130,7 @@ module _ (s : List ℕ) (few : byte s 10 ≤ 161) where
 
   pub paired-well : (l : List Paired) → every (pairedSuits s numbered (conditionsIn s) (lentIn (commonOf s))) l ≡ every (λ t. every (usedWell (commonOf s)) (networkLayout .transitionUses t)) l
   unfolding every
-  paired-well l = every-same _ _ (λ t. ap₂ _&&_ (guard-well (t .base .condition)) (every-same _ _ (λ p. before-well (p .condition)) (t .pairs) ∙ sym (every-map (usedWell (commonOf s)) (λ (p : Pair). record { number = p .condition; role = precondition }) (t .pairs)))) l
+  paired-well l = every-same _ _ (λ t. ap₂ _&&_ (before-well (t .base .condition)) (every-same _ _ (λ p. before-well (p .condition)) (t .pairs) ∙ sym (every-map (usedWell (commonOf s)) (λ (p : Pair). record { number = p .condition; role = precondition }) (t .pairs)))) l
 
 -- what the readers of the header answer
 module _ (s : List ℕ) where

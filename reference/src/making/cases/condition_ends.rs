@@ -39,11 +39,11 @@ fn result(operator: u8, a: i32, b: i32) -> i32 {
 
 // ---- Bytes ------------------------------------------------------------------------------------
 
-fn plus(a: &[u8], b: &[u8]) -> Vec<u8> {
+pub(crate) fn plus(a: &[u8], b: &[u8]) -> Vec<u8> {
     op(PLUS, &[a, b])
 }
 
-fn minus(a: &[u8], b: &[u8]) -> Vec<u8> {
+pub(crate) fn minus(a: &[u8], b: &[u8]) -> Vec<u8> {
     op(MINUS, &[a, b])
 }
 
@@ -417,10 +417,10 @@ fn ticks_at_the_ends(rows: &mut Rows) {
 
 // ---- Actions ----------------------------------------------------------------------------------
 
-const X0: &[u8] = &[18, 0];
-const X1: &[u8] = &[18, 1];
-const X2: &[u8] = &[18, 2];
-const X3: &[u8] = &[18, 3];
+pub(crate) const X0: &[u8] = &[18, 0];
+pub(crate) const X1: &[u8] = &[18, 1];
+pub(crate) const X2: &[u8] = &[18, 2];
+pub(crate) const X3: &[u8] = &[18, 3];
 
 /// Variables 0 and 1 are one before an end.
 const NEAR: Values = Values(

@@ -3,6 +3,7 @@
 pub mod bench_cases;
 pub mod condition_cases;
 pub(crate) mod condition_ends;
+mod precondition_roles;
 pub mod program_cases;
 pub mod rival_sheets;
 pub mod sheet_cases;

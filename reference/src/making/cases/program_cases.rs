@@ -1,5 +1,6 @@
 //! The cases of the program `cases`: whole inputs of `watch`. Document 01's sample, inputs at the
-//! edges of what the program takes, random ones from a fixed seed, and runs at the ends of the range.
+//! edges of what the program takes, random ones from a fixed seed, runs at the ends of the range, and runs
+//! whose preconditions read monitor variables.
 
 use crate::framing::program_frames::Frame;
 use crate::implementation::machine::MOST_PROGRAM;
@@ -9,6 +10,7 @@ use crate::implementation::sheet::Sheet;
 use crate::making::cases::sheet_cases::SHEET_A;
 use crate::making::generate::{usual_case, RunCase};
 use crate::making::random::Random;
+use crate::making::scripts::counting_preconditions;
 use crate::making::scripts::script_ends;
 use crate::making::wide;
 
@@ -119,7 +121,9 @@ pub fn all() -> Vec<Frame> {
     frames.extend(at_the_edges());
     frames.extend(random());
     frames.extend(wide());
-    frames.extend(script_ends::inputs().into_iter().map(Frame::Bytes));
+    for inputs in [script_ends::inputs(), counting_preconditions::inputs()] {
+        frames.extend(inputs.into_iter().map(Frame::Bytes));
+    }
     frames
 }
 

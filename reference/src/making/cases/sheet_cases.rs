@@ -6,6 +6,7 @@ use crate::implementation::machine::{set_length, Places};
 use crate::implementation::network::Version;
 use crate::implementation::run::write_log;
 use crate::implementation::translate::{translate_to, CARD_BUFFER};
+use crate::making::cases::precondition_roles;
 use crate::making::draft::{Front, NetworkDraft, SheetDraft};
 use crate::making::generate::{self, Size};
 use crate::making::random::Random;
@@ -18,11 +19,11 @@ pub struct Row {
 }
 
 /// The refusal's number; `None` where it is accepted.
-type Answer = Option<u8>;
-const OK: Answer = None;
+pub(super) type Answer = Option<u8>;
+pub(super) const OK: Answer = None;
 
 /// What sheets and networks of both versions have in common here. All start from the same front.
-trait Draft: Clone {
+pub(super) trait Draft: Clone {
     const KIND: Kind;
     const VERSION: u8;
     /// The longest condition.
@@ -101,7 +102,7 @@ impl Draft for SheetDraft {
 
 /// A network of version 2 or 3.
 #[derive(Clone)]
-struct Net<const VERSION: u8>(NetworkDraft);
+pub(super) struct Net<const VERSION: u8>(pub(super) NetworkDraft);
 
 impl<const VERSION: u8> Draft for Net<VERSION> {
     const KIND: Kind = Kind::Network;
@@ -160,11 +161,11 @@ impl<const VERSION: u8> Draft for Net<VERSION> {
 
 // ---- Drafts to start from ---------------------------------------------------------------------
 
-const TRUE: &[u8] = &[0];
-const ON_MONITOR: &[u8] = &[4, 18, 0, 17, 0];
-const ON_ENTRY: &[u8] = &[5, 17, 0, 19, 0];
+pub(super) const TRUE: &[u8] = &[0];
+pub(super) const ON_MONITOR: &[u8] = &[4, 18, 0, 17, 0];
+pub(super) const ON_ENTRY: &[u8] = &[5, 17, 0, 19, 0];
 const ON_PROGRAM: &[u8] = &[4, 17, 0, 17, 0];
-const ON_BOTH: &[u8] = &[5, 18, 0, 19, 0];
+pub(super) const ON_BOTH: &[u8] = &[5, 18, 0, 19, 0];
 
 /// A header alone, 14 bytes: no variables and no tables.
 fn empty<D: Draft>() -> D {
@@ -172,7 +173,7 @@ fn empty<D: Draft>() -> D {
 }
 
 /// No tables; these many states, program and monitor variables.
-fn counted<D: Draft>(states: u8, program: u8, monitor: u8) -> D {
+pub(super) fn counted<D: Draft>(states: u8, program: u8, monitor: u8) -> D {
     D::with(Front {
         version: D::VERSION,
         states,
@@ -186,7 +187,7 @@ fn counted<D: Draft>(states: u8, program: u8, monitor: u8) -> D {
 
 /// Some of everything. Conditions: 0 true, 1 on the monitor variable, 2 on a value at entry.
 /// Actions: 0 empty, 1 assigns. Transition 0 is an entry to unit 0, transition 1 an exit of unit 1.
-fn base<D: Draft>() -> D {
+pub(super) fn base<D: Draft>() -> D {
     let mut draft: D = counted(2, 1, 1);
     draft.front().units = 2;
     draft.front().bad = 0b10;
@@ -242,7 +243,7 @@ fn nots(length: usize) -> Vec<u8> {
 // ---- Rows -------------------------------------------------------------------------------------
 
 #[derive(Default)]
-struct Rows {
+pub(super) struct Rows {
     rows: Vec<Row>,
 }
 
@@ -256,7 +257,7 @@ impl Rows {
         self.rows.push(Row { frame, expected });
     }
 
-    fn judge<D: Draft>(&mut self, draft: &D, answer: Answer) {
+    pub(super) fn judge<D: Draft>(&mut self, draft: &D, answer: Answer) {
         let expected = match answer {
             None => accepted(draft.places()),
             Some(number) => refused(number),
@@ -689,17 +690,17 @@ fn actions_roles<D: Draft>(rows: &mut Rows) {
 const ROLES: [(&[u8], [bool; 3]); 10] = [
     (TRUE, [true, true, true]),
     (ON_PROGRAM, [true, true, true]),
-    (ON_MONITOR, [true, false, false]),
+    (ON_MONITOR, [true, true, false]),
     (ON_ENTRY, [false, false, true]),
     (ON_BOTH, [false, false, false]),
     // Not reached, deep, or only looking like a variable.
-    (&[3, 0, 4, 18, 0, 17, 0], [true, false, false]),
+    (&[3, 0, 4, 18, 0, 17, 0], [true, true, false]),
     (&[3, 0, 4, 17, 0, 19, 0], [false, false, true]),
     (
         &[5, 22, 5, 19, 0, 17, 0, 17, 0, 17, 0, 17, 0],
         [false, false, true],
     ),
-    (&[1, 5, 17, 0, 21, 17, 0, 18, 0], [true, false, false]),
+    (&[1, 5, 17, 0, 21, 17, 0, 18, 0], [true, true, false]),
     (&[5, 17, 0, 16, 18, 0, 19, 0], [true, true, true]),
 ];
 
@@ -746,7 +747,9 @@ fn condition_roles<D: Draft>(rows: &mut Rows) {
         (0, 0, OK),
         (0, 2, OK),
         (0, 1, Some(7)),
-        (1, 0, Some(7)),
+        (1, 0, OK),
+        (1, 2, OK),
+        (1, 1, Some(7)),
         (2, 0, Some(7)),
     ] {
         rows.base::<D>(answer, |d| d.check(pre, post));
@@ -1055,7 +1058,12 @@ fn long_tables(rows: &mut Rows) {
 
 /// What decides a long condition stands at its end, in each role.
 fn long_conditions(rows: &mut Rows) {
-    for (end, may) in [(ON_PROGRAM, [true; 3]), (ON_MONITOR, [true, false, false])] {
+    for (end, may) in [
+        (ON_PROGRAM, [true; 3]),
+        (ON_MONITOR, [true, true, false]),
+        (ON_ENTRY, [false, false, true]),
+        (ON_BOTH, [false; 3]),
+    ] {
         let condition = [&vec![1; 1_024 - end.len()], end].concat();
         for role in 0..3 {
             let mut roles = [false; 3];
@@ -1344,6 +1352,7 @@ pub fn chosen() -> Vec<Row> {
         long_tables,
         long_conditions,
         other_versions,
+        precondition_roles::add,
         log_headers,
         log_records,
         greatest,

@@ -12,6 +12,7 @@ use crate::making::cases::sheet_cases::{NETWORK_A, SHEET_A};
 use crate::making::draft::SheetDraft;
 use crate::making::generate::{self, Size};
 use crate::making::random::Random;
+use crate::making::scripts::counting_preconditions;
 use std::collections::HashSet;
 use std::ops::Range;
 
@@ -200,6 +201,52 @@ fn around_256(sheets: &mut Vec<SheetDraft>) {
     }
 }
 
+/// One state with these many monitor variables, and a triple for each, which asks whether it is the value.
+fn counting(variables: u8) -> SheetDraft {
+    let mut draft = base(2, 2);
+    draft.front.monitor = variables;
+    draft.front.initial = (1..=variables).map(i32::from).collect();
+    draft.front.actions.push(vec![0, 17, 0]);
+    for variable in 0..variables {
+        draft.front.conditions.push(vec![5, 18, variable, 17, 0]);
+        draft.triple(1, 1, FIRST_COUNTING + variable, ON_ENTRY);
+    }
+    draft
+}
+
+/// The number of the first such precondition.
+const FIRST_COUNTING: u8 = 3;
+
+/// Preconditions that read monitor variables (document 02, slip 13): alone, as guards of rivals that change
+/// a variable, and as long as they can be.
+fn counting_sheets(sheets: &mut Vec<SheetDraft>) {
+    sheets.extend(counting_preconditions::sheets());
+    for variables in 1..=4 {
+        let mut draft = counting(variables);
+        sheets.push(draft.clone());
+        for variable in 0..variables {
+            let guard = FIRST_COUNTING + variable;
+            draft.transition(1, 0, (Kind::Entry, 1), guard, 1);
+            draft.transition(1, 1, (Kind::Exit, 1), guard, 1);
+        }
+        sheets.push(draft.clone());
+        for condition in &mut draft.front.conditions[usize::from(FIRST_COUNTING)..] {
+            condition.splice(..0, vec![1; LONGEST - condition.len()]);
+        }
+        sheets.push(draft);
+    }
+}
+
+/// What is still refused 7 beside such preconditions: a monitor variable in a postcondition, and a value at
+/// entry in a precondition.
+fn wrong_roles() -> [Vec<u8>; 2] {
+    [[0, FIRST_COUNTING], [ON_ENTRY, 0]].map(|[precondition, postcondition]| {
+        let mut draft = counting(2);
+        draft.triple(1, 1, precondition, postcondition);
+        draft.bytes()
+    })
+}
+
 /// The longest sheet that has the longest network: each transition is an entry with four pairs, and
 /// no other triples share a state and unit.
 fn greatest() -> SheetDraft {
@@ -230,6 +277,7 @@ pub fn chosen() -> Vec<Vec<u8>> {
         full_tables,
         fronts,
         around_256,
+        counting_sheets,
     ] {
         add(&mut drafts);
     }
@@ -276,6 +324,7 @@ fn random_sheets(random: &mut Random) -> Vec<Vec<u8>> {
 /// Sheets of each refusal, from random ones that were broken or damaged.
 fn refused_sheets(random: &mut Random) -> Vec<Vec<u8>> {
     let mut sheets = vec![Vec::new(), NETWORK_A.to_vec(), SHEET_A[..38].to_vec()];
+    sheets.extend(wrong_roles());
     let mut missing = [REFUSED; 8];
     while missing.iter().any(|count| *count > 0) {
         let draft = random_sheet(random, Size::Small, 0..90);

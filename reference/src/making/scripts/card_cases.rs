@@ -58,7 +58,7 @@ pub fn page_in_version_3(page: &Page) -> Page {
 // ---- Long conditions --------------------------------------------------------------------------
 
 /// A condition of this length that holds where the shorter one does: behind `or false` and `and true`.
-fn padded(condition: &[u8], length: usize) -> Vec<u8> {
+pub(crate) fn padded(condition: &[u8], length: usize) -> Vec<u8> {
     let missing = length - condition.len();
     let odd: &[u8] = if missing % 2 == 1 { &[3, 1, 0] } else { &[] };
     let even = [2, 0].repeat((missing - odd.len()) / 2);

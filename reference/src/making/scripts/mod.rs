@@ -1,6 +1,8 @@
 //! The cases of `monitor_cases` and `network_cases`, whose frames are scripts: shared ones, and their own.
 
 pub mod card_cases;
+pub mod counting_pairs;
+pub mod counting_preconditions;
 pub mod monitor_cases;
 pub mod monitor_clauses;
 pub mod network_cases;
@@ -10,4 +12,5 @@ pub mod script;
 pub mod script_ends;
 pub mod shared_cases;
 pub mod shared_clauses;
+pub mod walk;
 pub mod wide_cases;

@@ -9,6 +9,7 @@ use crate::making::cases::sheet_cases::SHEET_A;
 use crate::making::draft::SheetDraft;
 use crate::making::generate::{self, Size};
 use crate::making::random::Random;
+use crate::making::scripts::counting_preconditions;
 use crate::making::scripts::monitor_clauses::{
     BASE_CLAUSES, EDGE_CLAUSES, FULL_CLAUSES, TINY_CLAUSES,
 };
@@ -271,8 +272,11 @@ pub fn all() -> Vec<Page> {
         shared_cases::logs,
         random_cases,
     ]);
-    let ends = vec![script_ends::page::<Sheet>()];
-    [vec![first], wide_cases::pages::<Sheet>(), ends]
+    let last = [
+        script_ends::page::<Sheet>(),
+        counting_preconditions::page::<Sheet>(),
+    ];
+    [vec![first], wide_cases::pages::<Sheet>(), last.into()]
         .into_iter()
         .flatten()
         .collect()

@@ -13,6 +13,7 @@ use crate::making::draft::{NetworkDraft, SheetDraft};
 use crate::making::generate::{self, Size};
 use crate::making::random::Random;
 use crate::making::scripts::card_cases;
+use crate::making::scripts::counting_pairs;
 use crate::making::scripts::monitor_cases::random_sheet;
 use crate::making::scripts::network_clauses::{
     BASE_CLAUSES, CROWD_CLAUSES, EDGE_CLAUSES, TINY_CLAUSES,
@@ -755,10 +756,11 @@ pub(crate) fn refused_networks(least: Least, good: &[u8]) -> Vec<(u8, Vec<u8>)> 
 /// Makes a network with these many program variables and these monitor variables.
 pub(crate) type Least = fn(u8, &[i32]) -> NetworkDraft;
 
-/// Refused with 7: a value at entry in a pair's condition, a guard and an action; a monitor variable in
-/// a pair's condition and a template's.
+/// Refused with 7: a value at entry in a pair's condition, alone and beside a monitor variable, in a guard
+/// and in an action; a monitor variable in a template's condition.
 fn refused_roles(least: Least) -> Vec<(u8, Vec<u8>)> {
     let (at_entry, monitor) = (vec![5, 19, 0, 19, 0], vec![5, 18, 0, 18, 0]);
+    let both = vec![5, 18, 0, 19, 0];
     let with = |condition: &[u8], place: fn(&mut NetworkDraft) -> &mut u8| {
         let mut network = least(1, &[0]);
         network.front.conditions.push(condition.to_vec());
@@ -770,7 +772,7 @@ fn refused_roles(least: Least) -> Vec<(u8, Vec<u8>)> {
     vec![
         with(&at_entry, |d| &mut d.transitions[0].1[0][0]),
         with(&at_entry, |d| &mut d.transitions[0].0[3]),
-        with(&monitor, |d| &mut d.transitions[0].1[0][0]),
+        with(&both, |d| &mut d.transitions[0].1[0][0]),
         with(&monitor, |d| &mut d.templates[0][1]),
         (7, action.bytes()),
     ]
@@ -913,6 +915,7 @@ pub fn all() -> Vec<Page> {
         vec![script_ends::page::<Network>()],
         card_cases::pages(&carried_over),
         vec![card_cases::page_in_version_3(&ends)],
+        counting_pairs::pages().into(),
     ]
     .into_iter()
     .flatten()

@@ -1,6 +1,7 @@
 //! A script of cases put together frame by frame, with the line that the reference gives for each
 //! frame and the answer written down by hand: for `monitor_cases` and `network_cases`.
 
+use crate::framing::monitor_frames::Arms;
 use crate::framing::script_frames::{Bench, Frame, Rules, Set};
 use crate::implementation::run::{write_log, Record};
 
@@ -37,6 +38,8 @@ pub enum Sort {
     Card,
     /// Counters and sums at the ends of the signed range.
     Ends,
+    /// Preconditions and pairs that read monitor variables.
+    Preconditions,
 }
 
 /// A frame, the line that the reference gives for it, and the answer written down by hand.
@@ -64,6 +67,19 @@ fn visit_page<R: Rules>(page: &[Row<R::Own>], see: &mut impl FnMut(&Bench<R>, &R
         see(&bench, row);
         bench.carry_out(&row.frame);
     }
+}
+
+/// The runs of a page on sheets as inputs of the program.
+pub fn inputs(page: Page<Arms>) -> Vec<Vec<u8>> {
+    let (mut sheet, mut inputs) = (Vec::new(), Vec::new());
+    for row in page {
+        match row.frame {
+            Frame::Rules(bytes) => sheet = bytes,
+            Frame::Run(log) => inputs.push([&sheet[..], &log].concat()),
+            _ => {}
+        }
+    }
+    inputs
 }
 
 /// The rows so far, and where they have led.

@@ -5,27 +5,18 @@
 use crate::framing::script_frames::Frame;
 use crate::implementation::run::{write_log, Record};
 use crate::implementation::sheet::Sheet;
-use crate::implementation::state::{Call, Cause};
+use crate::implementation::state::Cause;
 use crate::making::cases::condition_cases::{joined, number, op, E0, P0};
-use crate::making::cases::condition_ends::{difference, sum};
+use crate::making::cases::condition_ends::{difference, minus, plus, sum, X0, X1};
 use crate::making::draft::SheetDraft;
 use crate::making::random::Random;
 use crate::making::random_ends;
-use crate::making::scripts::script::{entry, exit, Page, Script, Sort};
-use crate::making::scripts::shared_cases::{ran, taken, Subject};
+use crate::making::scripts::script::{self, entry, exit, Page, Script, Sort};
+use crate::making::scripts::shared_cases::{held, ran, taken, Subject};
+use crate::making::scripts::walk::{Leaves, Walk};
 
 const LEAST: i32 = i32::MIN;
 const GREATEST: i32 = i32::MAX;
-const X0: &[u8] = &[18, 0];
-const X1: &[u8] = &[18, 1];
-
-fn plus(a: &[u8], b: &[u8]) -> Vec<u8> {
-    op(20, &[a, b])
-}
-
-fn minus(a: &[u8], b: &[u8]) -> Vec<u8> {
-    op(21, &[a, b])
-}
 
 // ---- Counters ---------------------------------------------------------------------------------
 
@@ -86,69 +77,21 @@ fn stepped([x0, x1, ..]: [i32; 4], by: i32) -> [i32; 4] {
     [x0, x1, difference(x0, x1), last]
 }
 
-/// The events so far on `counters`, the variables and the open calls after them.
-#[derive(Default)]
-struct Walk {
-    records: Vec<Record>,
-    variables: [i32; 4],
-    open: Vec<Call>,
+/// Offers an event that leads to this state, also as the last of a run.
+fn ask<R: Subject>(walk: &Walk, script: &mut Script<R>, event: Record, main: u8) {
+    let cause = (main == BAD).then_some(Cause::State(BAD));
+    walk.ask(script, event, &Leaves::state(main, walk.variables, cause));
 }
 
-impl Walk {
-    /// The open calls after an event.
-    fn after(&self, event: &Record) -> Vec<(Call, Vec<u8>)> {
-        let mut open = self.open.clone();
-        if event.kind == 0 {
-            open.push(held(event));
-        } else {
-            open.retain(|call| call.number != event.call);
-        }
-        open.into_iter().map(|call| (call, Vec::new())).collect()
-    }
-
-    /// Goes on with an event that stays in state 0 and leaves these variables.
-    fn step<R: Subject>(&mut self, script: &mut Script<R>, event: Record, variables: [i32; 4]) {
-        let open = self.after(&event);
-        self.variables = variables;
-        self.open = open.iter().map(|(call, _)| *call).collect();
-        self.records.push(event.clone());
-        let position = self.records.len() as u32;
-        let line = taken::<R>((0, variables), &open, position, None);
-        script.step(&event, &line);
-    }
-
-    /// Offers an event that leads to this state, also as the last of a run.
-    fn ask<R: Subject>(&self, script: &mut Script<R>, event: Record, main: u8) {
-        let open = self.after(&event);
-        let cause = (main == BAD).then_some(Cause::State(BAD));
-        let records = [&self.records[..], std::slice::from_ref(&event)].concat();
-        let position = records.len() as u32;
-        let line = taken::<R>((main, self.variables), &open, position, cause);
-        script.offer(&event, &line);
-        script.run_records(1, &records, &ran(main, open.len(), position, cause));
-    }
-
-    /// The four rules that ask about the counters. Calls 3 and 4 are open.
-    fn ask_all<R: Subject>(&self, script: &mut Script<R>) {
-        let [x0, x1, ..] = self.variables;
-        let behind = (i64::from(x1) - i64::from(x0)).rem_euclid(1 << 32);
-        let bad = |is: bool| if is { BAD } else { 0 };
-        self.ask(script, entry(3, 9, &[0]), bad(x0 == GREATEST));
-        self.ask(script, exit(4, 4, &[0]), bad(x1 == LEAST));
-        self.ask(script, entry(4, 9, &[0]), u8::from(behind <= 1));
-        self.ask(script, exit(3, 3, &[0]), u8::from(x0 != GREATEST));
-    }
-}
-
-/// The call that an entry with one value opens.
-fn held(event: &Record) -> Call {
-    let mut call = Call {
-        number: event.call,
-        unit: event.unit,
-        ..Call::default()
-    };
-    call.kept[0] = event.values[0];
-    call
+/// The four rules that ask about the counters. Calls 3 and 4 are open.
+fn ask_all<R: Subject>(walk: &Walk, script: &mut Script<R>) {
+    let [x0, x1, ..] = walk.variables;
+    let behind = (i64::from(x1) - i64::from(x0)).rem_euclid(1 << 32);
+    let bad = |is: bool| if is { BAD } else { 0 };
+    ask(walk, script, entry(3, 9, &[0]), bad(x0 == GREATEST));
+    ask(walk, script, exit(4, 4, &[0]), bad(x1 == LEAST));
+    ask(walk, script, entry(4, 9, &[0]), u8::from(behind <= 1));
+    ask(walk, script, exit(3, 3, &[0]), u8::from(x0 != GREATEST));
 }
 
 /// What the counters are after each of several counts.
@@ -190,9 +133,10 @@ fn start<R: Subject>(script: &mut Script<R>) -> Walk {
     script.fresh("accepted x0=2147483645 x1=-2147483646");
     let mut walk = Walk::default();
     for unit in [3, 4] {
-        walk.step(script, entry(unit, unit.into(), &[0]), START);
+        let event = entry(unit, unit.into(), &[0]);
+        walk.step(script, event, &Leaves::variables(START));
     }
-    walk.ask_all(script);
+    ask_all(&walk, script);
     walk
 }
 
@@ -202,15 +146,16 @@ fn counting<R: Subject>(script: &mut Script<R>) {
     let [_, down, x2, x3] = START;
     for (x0, n) in UP.into_iter().zip(1..) {
         let after = [x0, down, x2, x3];
-        walk.step(script, entry(0, 7, &[n]), after);
-        walk.ask_all(script);
-        walk.step(script, exit(0, 7, &[n]), after);
+        walk.step(script, entry(0, 7, &[n]), &Leaves::variables(after));
+        ask_all(&walk, script);
+        walk.step(script, exit(0, 7, &[n]), &Leaves::variables(after));
     }
     for (x1, n) in DOWN.into_iter().zip(1..) {
         let before = walk.variables;
-        walk.step(script, entry(1, 8, &[n]), before);
-        walk.step(script, exit(1, 8, &[n]), [GREATEST, x1, x2, x3]);
-        walk.ask_all(script);
+        walk.step(script, entry(1, 8, &[n]), &Leaves::variables(before));
+        let after = [GREATEST, x1, x2, x3];
+        walk.step(script, exit(1, 8, &[n]), &Leaves::variables(after));
+        ask_all(&walk, script);
     }
 }
 
@@ -219,9 +164,9 @@ fn any_steps<R: Subject>(script: &mut Script<R>) {
     let mut walk = start(script);
     for by in STEPS {
         let after = stepped(walk.variables, by);
-        walk.step(script, entry(2, 7, &[by]), after);
-        walk.ask_all(script);
-        walk.step(script, exit(2, 7, &[by]), after);
+        walk.step(script, entry(2, 7, &[by]), &Leaves::variables(after));
+        ask_all(&walk, script);
+        walk.step(script, exit(2, 7, &[by]), &Leaves::variables(after));
     }
 }
 
@@ -507,13 +452,5 @@ pub fn page<R: Subject>() -> Page<R::Own> {
 
 /// The runs of the page as inputs of the program.
 pub fn inputs() -> Vec<Vec<u8>> {
-    let (mut sheet, mut inputs) = (Vec::new(), Vec::new());
-    for row in page::<Sheet>() {
-        match row.frame {
-            Frame::Rules(bytes) => sheet = bytes,
-            Frame::Run(log) => inputs.push([&sheet[..], &log].concat()),
-            _ => {}
-        }
-    }
-    inputs
+    script::inputs(page::<Sheet>())
 }

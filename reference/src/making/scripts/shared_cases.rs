@@ -168,6 +168,19 @@ pub fn taken<R: Subject>(
     format!("taken{}", state_text::<R>(&state))
 }
 
+/// The call that an entry opens.
+pub fn held(entry: &Record) -> Call {
+    let mut call = Call {
+        number: entry.call,
+        unit: entry.unit,
+        ..Call::default()
+    };
+    for (kept, value) in call.kept.iter_mut().zip(&entry.values) {
+        *kept = *value;
+    }
+    call
+}
+
 /// A run's line: main state, open calls, position and verdict.
 pub fn ran(main: u8, open: usize, position: u32, cause: Option<Cause>) -> String {
     let dash = |number: Option<u8>| number.map_or("-".to_string(), |n| n.to_string());

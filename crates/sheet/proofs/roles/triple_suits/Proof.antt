@@ -6,7 +6,7 @@ use Rattle.sheet.proofs.roles.triple_suits.Statement.{statement}
 use Rattle.sheet.proofs.roles.triple_suits.Tie as tie
 
 returns : tie.Need-returns
-returns c = ap₂ (λ (x y : Bool). x && not y) (c .before .precondition-suits .ensures) (c .names-monitor .ensures)
+returns c = ap₂ (λ (x y : Bool). not x && not y) (c .before .names-entry .ensures) (c .names-monitor .ensures)
 
 pub triple-suits-spec : {M : Type 1} → statement M
 triple-suits-spec =
