@@ -55,8 +55,9 @@ static void print_number_or_dash(uint32_t number) {
         printf("%lu", (unsigned long)number);
 }
 
-static void print_answer(uint32_t code, uint32_t first, uint32_t second, uint32_t third) {
-    unsigned long n = first, m = second, k = third;
+static void print_answer(uint32_t code, uint32_t first, uint32_t second, uint32_t third,
+                         uint32_t fourth) {
+    unsigned long n = first, m = second, k = third, e = fourth;
     switch (code) {
     case WATCH_CLEAN:
         printf("clean %lu state %lu open %lu\n", n, m, k);
@@ -66,7 +67,11 @@ static void print_answer(uint32_t code, uint32_t first, uint32_t second, uint32_
         print_number_or_dash(second);
         printf(" triple ");
         print_number_or_dash(third);
-        printf("\n");
+        /* Without a triple no call's entry is told. */
+        if (third == WATCH_NONE)
+            printf(" entry -\n");
+        else
+            printf(" entry %lu\n", e);
         break;
     case WATCH_REFUSED:
         printf("refused %lu\n", n);
@@ -78,22 +83,23 @@ static void print_answer(uint32_t code, uint32_t first, uint32_t second, uint32_
 }
 
 static void run_on_sheet(struct bytes sheet, struct bytes log) {
-    uint32_t first, second, third;
-    uint32_t code = watch_run(sheet.at, sheet.length, log.at, log.length, &first, &second, &third);
-    print_answer(code, first, second, third);
+    uint32_t first, second, third, fourth;
+    uint32_t code = watch_run(sheet.at, sheet.length, log.at, log.length, &first, &second, &third,
+                              &fourth);
+    print_answer(code, first, second, third, fourth);
 }
 
 static void run_on_network(struct bytes sheet, struct bytes log) {
     uint8_t network[WATCH_MOST_NETWORK];
     size_t size;
-    uint32_t code, first, second, third;
+    uint32_t code, first, second, third, fourth;
     uint32_t refusal = watch_translate(sheet.at, sheet.length, network, sizeof network, &size);
     if (refusal != 0) {
-        print_answer(WATCH_REFUSED, refusal, 0, 0);
+        print_answer(WATCH_REFUSED, refusal, 0, 0, 0);
         return;
     }
-    code = watch_run_network(network, size, log.at, log.length, &first, &second, &third);
-    print_answer(code, first, second, third);
+    code = watch_run_network(network, size, log.at, log.length, &first, &second, &third, &fourth);
+    print_answer(code, first, second, third, fourth);
 }
 
 /* Reads the two files, or says which cannot be read; gives whether both were. */

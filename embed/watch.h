@@ -9,8 +9,8 @@
  * What the caller owes, and what nothing checks:
  *  - Bytes are lent as a pointer and, right behind it, how many there are. No pointer is NULL, even
  *    where that number is 0. All the bytes are there; those of `out` may be written.
- *  - What a function writes to (out, size, first, second, third) overlaps nothing else that the call
- *    is given, and nobody else reads or writes it during the call.
+ *  - What a function writes to (out, size, first, second, third, fourth) overlaps nothing else that
+ *    the call is given, and nobody else reads or writes it during the call.
  *  - There are 64 KiB of stack. At most 54 KB were used, to run a network of version 3 with a condition
  *    that is `and` 511 deep; without version 3 at most 26 KB.
  *
@@ -47,21 +47,24 @@ extern "C" {
 /*
  * Runs a log on a sheet, from the sheet's fresh state, until a verdict, a refused event or the end.
  *
- *   sheet, sheet_length    the sheet's bytes: at most 6,782 are accepted
- *   log, log_length        the log's bytes
- *   first, second, third   are each written in every case, as below
+ *   sheet, sheet_length            the sheet's bytes: at most 6,782 are accepted
+ *   log, log_length                the log's bytes
+ *   first, second, third, fourth   are each written in every case, as below
  *
- * returns                 *first              *second                     *third
- * WATCH_CLEAN             events taken        the main state              open calls
- * WATCH_VIOLATED          the position of     the bad state, or           the lowest failing triple,
- *                         the event, from 1   WATCH_NONE                  or WATCH_NONE
- * WATCH_REFUSED           the refusal of the  0                           0
- *                         sheet or the log
- * WATCH_EVENT_REFUSED     the refusal         the record of the event     0
- *                                             in the log, from 1
+ * returns               *first              *second             *third              *fourth
+ * WATCH_CLEAN           events taken        the main state      open calls          0
+ * WATCH_VIOLATED        the position of     the bad state, or   the lowest failing  the position of the
+ *                       the event, from 1   WATCH_NONE          triple, or          entry of the call that
+ *                                                               WATCH_NONE          broke it, from 1; 0
+ *                                                                                   where no triple failed
+ * WATCH_REFUSED         the refusal of the  0                   0                   0
+ *                       sheet or the log
+ * WATCH_EVENT_REFUSED   the refusal         the record of the   0                   0
+ *                                           event in the log,
+ *                                           from 1
  */
 uint32_t watch_run(const uint8_t *sheet, size_t sheet_length, const uint8_t *log, size_t log_length,
-                   uint32_t *first, uint32_t *second, uint32_t *third);
+                   uint32_t *first, uint32_t *second, uint32_t *third, uint32_t *fourth);
 
 /*
  * The same on a network, as watch_translate or watch_translate_card writes it, cut to its length: a
@@ -74,7 +77,8 @@ uint32_t watch_run(const uint8_t *sheet, size_t sheet_length, const uint8_t *log
  * returns as watch_run does, with the refusals of a network.
  */
 uint32_t watch_run_network(const uint8_t *network, size_t network_length, const uint8_t *log,
-                           size_t log_length, uint32_t *first, uint32_t *second, uint32_t *third);
+                           size_t log_length, uint32_t *first, uint32_t *second, uint32_t *third,
+                           uint32_t *fourth);
 
 /*
  * Translates a sheet into its network.

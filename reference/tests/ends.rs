@@ -160,9 +160,9 @@ fn the_more_than_rule_holds_past_the_greatest() {
     let network = sheet.translate();
     for (log, line, stops) in [
         ("few", "clean 6 state 0 open 0", false),
-        ("many", "violated 7 state 1 triple -", false),
-        ("passed", "violated 7 state 1 triple -", true),
-        ("later", "violated 11 state 1 triple -", true),
+        ("many", "violated 7 state 1 triple - entry -", false),
+        ("passed", "violated 7 state 1 triple - entry -", true),
+        ("later", "violated 11 state 1 triple - entry -", true),
     ] {
         let log = sample(&format!("actuations-{log}.log"));
         let lines = [

@@ -41,11 +41,11 @@ fn every_sort_of_case_occurs_often() {
         pages,
         &[
             (Sort::Reached, 300),
-            (Sort::Broken, 200),
-            (Sort::Neighbour, 80),
+            (Sort::Broken, 1_000),
+            (Sort::Neighbour, 300),
             (Sort::Position, 20),
             (Sort::Filling, 50),
-            (Sort::Together, 150),
+            (Sort::Together, 600),
             (Sort::Reading, 100),
             (Sort::Foreign, 50),
             (Sort::Shaken, 100),
@@ -55,6 +55,7 @@ fn every_sort_of_case_occurs_often() {
             (Sort::Ends, 500),
             (Sort::Card, 600),
             (Sort::Preconditions, 1_000),
+            (Sort::Entries, 1_000),
         ],
     );
     let logs = count(pages, |row, _| is_run(row));
@@ -97,7 +98,9 @@ fn refused_events_change_nothing() {
 #[test]
 fn every_field_shows_in_the_line() {
     let mut own = vec![Checkers::Living];
-    own.extend((0..64).flat_map(|i| [Checkers::Call(i), Checkers::Template(i)]));
+    own.extend(
+        (0..64).flat_map(|i| [Checkers::Call(i), Checkers::Template(i), Checkers::Entry(i)]),
+    );
     scripts::assert_fields_show::<Network>(&own);
 }
 
@@ -109,6 +112,9 @@ fn frames_that_are_cut_are_no_frames() {
         Frame::Set(Field::Own(Checkers::Template(63)), 4),
         Frame::Set(Field::Position, 5),
         Frame::Set(Field::Both(1, 2), 6),
+        Frame::Set(Field::Entry(15), 0x0102_0304),
+        Frame::Set(Field::Own(Checkers::Entry(63)), 7),
+        Frame::Set(Field::Carried, u32::MAX),
         Frame::EntryValues(64),
         Frame::Offer {
             event: Record {
@@ -126,12 +132,15 @@ fn frames_that_are_cut_are_no_frames() {
         &[2, 8, 63, 0, 0, 0, 0, 4],
         &[2, 9, 0, 0, 0, 0, 0, 5],
         &[2, 13, 1, 2, 0, 0, 0, 6],
+        &[2, 14, 15, 0, 1, 2, 3, 4],
+        &[2, 15, 63, 0, 0, 0, 0, 7],
+        &[2, 16, 0, 0, 255, 255, 255, 255],
         &[8, 64],
         &[5, 1, 2, 3, 4, 1, 255, 255, 255, 255],
     ];
     scripts::assert_frames_are(&frames, &expected);
     assert_eq!(read_frames::<Checkers>(&[9]), None);
-    assert_eq!(read_frames::<Checkers>(&[2, 14, 0, 0, 0, 0, 0, 0]), None);
+    assert_eq!(read_frames::<Checkers>(&[2, 17, 0, 0, 0, 0, 0, 0]), None);
 }
 
 #[test]
@@ -464,6 +473,19 @@ fn calls_judged(state: &NetworkState, network: &Network) -> Vec<Judged> {
             "kept behind the open calls",
             behind.iter().any(|call| call.kept.iter().any(is_set)),
         ),
+        (
+            "entry behind the open calls",
+            behind.iter().any(|call| call.entry != 0),
+        ),
+        ("entry 0", open.iter().any(|call| call.entry == 0)),
+        (
+            "entry above the position",
+            open.iter().any(|call| call.entry > common.position),
+        ),
+        (
+            "entries do not rise",
+            (1..open.len()).any(|place| open[place].entry <= open[place - 1].entry),
+        ),
     ]
 }
 
@@ -476,6 +498,7 @@ fn checkers_judged(state: &NetworkState, network: &Network) -> Vec<Judged> {
         (Some(place), Some(template)) => open[place].unit != template.unit,
         _ => false,
     };
+    let other_entry = |c: &Checker| place(c).is_some_and(|place| open[place].entry != c.entry);
     let together = |c: &Checker| living.iter().filter(|other| other.call == c.call).count();
     let places: Vec<usize> = living.iter().filter_map(place).collect();
     vec![
@@ -493,6 +516,11 @@ fn checkers_judged(state: &NetworkState, network: &Network) -> Vec<Judged> {
             "template behind the living",
             behind.iter().any(|c| c.template != 0),
         ),
+        (
+            "entry behind the living",
+            behind.iter().any(|c| c.entry != 0),
+        ),
+        ("another call's entry", living.iter().any(other_entry)),
     ]
 }
 
@@ -516,10 +544,22 @@ fn verdict_judged(common: &Common, network: &Network) -> Vec<Judged> {
             "verdict's template does not exist",
             template.is_some_and(|template| usize::from(template) >= network.templates.len()),
         ),
+        (
+            "verdict's entry without a template",
+            template.is_none() && verdict.entry != 0,
+        ),
+        (
+            "verdict's entry 0 with a template",
+            template.is_some() && verdict.entry == 0,
+        ),
+        (
+            "verdict's entry not below its position",
+            template.is_some() && verdict.entry >= verdict.position,
+        ),
     ]
 }
 
-const CLAUSES: [&str; 22] = [
+const CLAUSES: [&str; 31] = [
     "main state",
     "opened",
     "numbers",
@@ -529,6 +569,10 @@ const CLAUSES: [&str; 22] = [
     "number behind the open calls",
     "unit behind the open calls",
     "kept behind the open calls",
+    "entry behind the open calls",
+    "entry 0",
+    "entry above the position",
+    "entries do not rise",
     "living",
     "call not open",
     "no such template",
@@ -537,11 +581,16 @@ const CLAUSES: [&str; 22] = [
     "order",
     "call behind the living",
     "template behind the living",
+    "entry behind the living",
+    "another call's entry",
     "no verdict in a bad state",
     "verdict's position",
     "verdict's state is not the main one",
     "verdict's state is not bad",
     "verdict's template does not exist",
+    "verdict's entry without a template",
+    "verdict's entry 0 with a template",
+    "verdict's entry not below its position",
 ];
 
 /// Every clause is broken alone, with an entry and an exit at least, and no other state is refused 9.

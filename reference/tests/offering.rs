@@ -36,17 +36,18 @@ fn every_sort_of_case_occurs_often() {
         pages,
         &[
             (Sort::Reached, 500),
-            (Sort::Broken, 200),
-            (Sort::Neighbour, 80),
+            (Sort::Broken, 500),
+            (Sort::Neighbour, 150),
             (Sort::Position, 20),
             (Sort::Filling, 50),
-            (Sort::Together, 300),
+            (Sort::Together, 450),
             (Sort::Reading, 100),
             (Sort::Foreign, 90),
             (Sort::Shaken, 200),
             (Sort::Wide, 1_000),
             (Sort::Ends, 500),
             (Sort::Preconditions, 500),
+            (Sort::Entries, 500),
         ],
     );
     let logs = count(pages, |row, _| is_run(row));
@@ -95,6 +96,8 @@ fn frames_that_are_cut_are_no_frames() {
         Frame::Set(Field::Kept(3, 4), 0x0506_0708),
         Frame::Set(Field::Own(Arms::Triple(3, 2)), 9),
         Frame::Set(Field::Both(1, 2), 3),
+        Frame::Set(Field::Entry(15), 0x0102_0304),
+        Frame::Set(Field::Carried, u32::MAX),
         Frame::Offer {
             event: Record {
                 kind: 1,
@@ -110,11 +113,13 @@ fn frames_that_are_cut_are_no_frames() {
         &[2, 5, 3, 4, 5, 6, 7, 8],
         &[2, 7, 3, 2, 0, 0, 0, 9],
         &[2, 12, 1, 2, 0, 0, 0, 3],
+        &[2, 13, 15, 0, 1, 2, 3, 4],
+        &[2, 14, 0, 0, 255, 255, 255, 255],
         &[6, 1, 2, 3, 4, 1, 255, 255, 255, 255],
     ];
     scripts::assert_frames_are(&frames, &expected);
     assert_eq!(read_frames::<Arms>(&[8, 0]), None);
-    assert_eq!(read_frames::<Arms>(&[2, 13, 0, 0, 0, 0, 0, 0]), None);
+    assert_eq!(read_frames::<Arms>(&[2, 15, 0, 0, 0, 0, 0, 0]), None);
 }
 
 #[test]

@@ -129,9 +129,12 @@ fn example_9_valid_traces() {
 fn example_8_counterexample_by_state() {
     let sheet = coffee_machine();
     let w = [starts(BREW, 1, 0), starts(BREW, 2, 0)];
-    assert_eq!(line(&sheet, &w), "violated 2 state 2 triple -");
+    assert_eq!(line(&sheet, &w), "violated 2 state 2 triple - entry -");
     let cleaning = [starts(BREW, 1, 0), starts(CLEAN, 2, 0)];
-    assert_eq!(line(&sheet, &cleaning), "violated 2 state 2 triple -");
+    assert_eq!(
+        line(&sheet, &cleaning),
+        "violated 2 state 2 triple - entry -"
+    );
 }
 
 #[test]
@@ -144,7 +147,7 @@ fn example_8_counterexample_by_postcondition() {
         starts(CLEAN, 1, 1),
         ends(CLEAN, 1, 1),
     ];
-    assert_eq!(line(&sheet, &w), "violated 4 state - triple 1");
+    assert_eq!(line(&sheet, &w), "violated 4 state - triple 1 entry 3");
 }
 
 #[test]
@@ -156,14 +159,14 @@ fn traces_with_a_counterexample_in_front_are_violating() {
         ends(BREW, 2, 0),
         ends(BREW, 1, 1),
     ];
-    assert_eq!(line(&sheet, &w), "violated 2 state 2 triple -");
+    assert_eq!(line(&sheet, &w), "violated 2 state 2 triple - entry -");
 }
 
 #[test]
 fn brewing_must_add_a_cup() {
     let sheet = coffee_machine();
     let w = [starts(BREW, 1, 0), ends(BREW, 1, 0)];
-    assert_eq!(line(&sheet, &w), "violated 2 state - triple 0");
+    assert_eq!(line(&sheet, &w), "violated 2 state - triple 0 entry 1");
 }
 
 #[test]
@@ -194,6 +197,7 @@ fn example_5_configuration_after_the_first_entry() {
     let checker = Checker {
         call: 9,
         template: 0,
+        entry: 1,
     };
     assert_eq!(state.living_checkers(), [checker]);
 }
@@ -310,9 +314,9 @@ fn ten_transfers_in_a_session_are_valid() {
 #[test]
 fn a_transfer_with_c_over_10_is_a_counterexample_by_state() {
     let at_exit = line(&file_transfers(Kind::Exit), &session(12));
-    assert_eq!(at_exit, "violated 26 state 2 triple -");
+    assert_eq!(at_exit, "violated 26 state 2 triple - entry -");
     let at_entry = line(&file_transfers(Kind::Entry), &session(12));
-    assert_eq!(at_entry, "violated 25 state 2 triple -");
+    assert_eq!(at_entry, "violated 25 state 2 triple - entry -");
 }
 
 #[test]
@@ -331,7 +335,7 @@ fn a_transfer_must_add_its_size() {
         records.extend(whole(TRANSFER, 40, 300, 399));
         assert_eq!(
             line(&file_transfers(counted), &records),
-            "violated 10 state - triple 0"
+            "violated 10 state - triple 0 entry 9"
         );
     }
 }
@@ -341,7 +345,10 @@ fn the_last_transfer_can_fail_by_state_and_triple_at_once() {
     let mut records = session(11);
     records.extend(whole(TRANSFER, 40, 1100, 1100));
     let sheet = file_transfers(Kind::Exit);
-    assert_eq!(line(&sheet, &records), "violated 26 state 2 triple 0");
+    assert_eq!(
+        line(&sheet, &records),
+        "violated 26 state 2 triple 0 entry 25"
+    );
     let read = Sheet::read(&sheet).unwrap();
     let mut state = read.fresh();
     for record in &records {
@@ -363,7 +370,7 @@ fn logged_out_a_transfer_must_change_nothing() {
     );
     assert_eq!(
         line(&sheet, &whole(TRANSFER, 1, 50, 150)),
-        "violated 2 state - triple 2"
+        "violated 2 state - triple 2 entry 1"
     );
 }
 
@@ -394,7 +401,7 @@ fn renaming_needs_the_right_to_write() {
         line(&sheet, &records)
     };
     assert_eq!(rename(1, 8), "clean 4 state 1 open 0");
-    assert_eq!(rename(1, 7), "violated 4 state - triple 1");
+    assert_eq!(rename(1, 7), "violated 4 state - triple 1 entry 3");
     assert_eq!(rename(0, 7), "clean 4 state 1 open 0");
 }
 

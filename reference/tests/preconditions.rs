@@ -19,7 +19,7 @@ use reference::implementation::network::{Network, Pair};
 use reference::implementation::program::split;
 use reference::implementation::run::{run, run_records, write_log, Record};
 use reference::implementation::sheet::Sheet;
-use reference::implementation::state::{Cause, Common};
+use reference::implementation::state::Common;
 use reference::making::cases::program_cases;
 use reference::making::draft::{NetworkDraft, SheetDraft};
 use reference::making::scripts::script::{entry, exit};
@@ -139,12 +139,12 @@ fn a_precondition_is_read_at_the_entry_alone() {
     let enters = |call: u16| entry(0, call, &[5]);
     let leaves = |call: u16, value: i32| exit(0, call, &[value]);
     let entered = [enters(1), enters(2), enters(3), enters(4)];
-    for (call, value, cause) in [
-        (1, 5, None),
-        (1, 6, Some(Cause::Triple(0))),
-        (2, 6, Some(Cause::Triple(0))),
-        (3, 6, None),
-        (4, 6, None),
+    for (call, value, is_broken) in [
+        (1, 5, false),
+        (1, 6, true),
+        (2, 6, true),
+        (3, 6, false),
+        (4, 6, false),
     ] {
         let records = [&entered[..], &[leaves(call, value)]].concat();
         let network = sheet.translate();
@@ -153,11 +153,14 @@ fn a_precondition_is_read_at_the_entry_alone() {
             run_records(&network, &records),
             run_records(&network.separated(), &records),
         ];
-        let expected = match cause {
-            None => "clean 5 state 0 open 3",
-            Some(_) => "violated 5 state - triple 0",
+        // The calls were entered in the order of their numbers.
+        let expected = match is_broken {
+            false => "clean 5 state 0 open 3".into(),
+            true => format!("violated 5 state - triple 0 entry {call}"),
         };
-        assert_eq!(lines.map(|line| line.to_string()), [expected; 3]);
+        for line in lines {
+            assert_eq!(line.to_string(), expected);
+        }
     }
 }
 
@@ -221,11 +224,11 @@ fn the_sample_s_logs() {
     let network = sheet.translate();
     for (log, line, decides) in [
         ("few", "clean 4 state 0 open 0", false),
-        ("dark", "violated 4 state - triple 0", false),
+        ("dark", "violated 4 state - triple 0 entry 3", false),
         ("third", "clean 6 state 0 open 0", true),
-        ("dim", "violated 6 state - triple 0", true),
+        ("dim", "violated 6 state - triple 0 entry 5", true),
         ("fourth", "clean 8 state 0 open 0", true),
-        ("lit", "violated 8 state - triple 1", true),
+        ("lit", "violated 8 state - triple 1 entry 7", true),
         ("reset", "clean 10 state 0 open 0", true),
     ] {
         let bytes = sample(&format!("retries-{log}.log"));

@@ -293,7 +293,7 @@ fn the_example_prints_the_program_s_lines() {
         sheet: SHEET_A.to_vec(),
         log: LOG_A.to_vec(),
     };
-    let line = "violated 2 state - triple 0\n";
+    let line = "violated 2 state - triple 0 entry 1\n";
     assert_eq!(compare(&a), line.repeat(2));
     let mut random = Random::new(SEED + 4);
     for _ in 0..200 {

@@ -8,7 +8,7 @@ use reference::implementation::network::Network;
 use reference::implementation::program::output;
 use reference::implementation::run::{reach, run_network, run_sheet, Record};
 use reference::implementation::sheet::{Sheet, LONGEST_SHEET};
-use reference::implementation::state::{NetworkState, SheetState};
+use reference::implementation::state::{Checker, NetworkState, SheetState};
 use reference::implementation::translate::{translate, translate_card, BUFFER};
 use reference::making::generate::{self, Size};
 use reference::making::random::Random;
@@ -168,15 +168,15 @@ fn compare(on_sheet: &SheetState, on_network: &NetworkState) {
     assert_eq!(on_sheet.common, on_network.common);
     let calls = on_sheet.common.open_calls().iter().zip(&on_sheet.armed);
     let armed = calls.flat_map(|(call, armed)| {
-        let number = call.number;
-        armed.numbers().iter().map(move |triple| (number, *triple))
+        let triples = armed.numbers().iter();
+        triples.map(|triple| Checker {
+            call: call.number,
+            template: *triple,
+            entry: call.entry,
+        })
     });
-    let armed: Vec<(u16, u8)> = armed.collect();
-    let checkers = on_network
-        .living_checkers()
-        .iter()
-        .map(|c| (c.call, c.template));
-    assert_eq!(armed, checkers.collect::<Vec<_>>());
+    let armed: Vec<Checker> = armed.collect();
+    assert_eq!(on_network.living_checkers(), armed);
 }
 
 #[test]

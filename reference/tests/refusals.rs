@@ -517,54 +517,63 @@ fn refusal_9_on_sheets() {
     for (number, change) in changes.iter().enumerate() {
         assert_eq!(offer(change), unsound, "{number}");
     }
-    // Two open calls with one number.
-    let twice = |s: &mut SheetState| {
-        s.common.open = 2;
+    // Two open calls with one number, and with two.
+    let second = |s: &mut SheetState, number: u16| {
+        (s.common.open, s.common.position) = (2, 2);
         s.common.calls[1] = s.common.calls[0];
+        (s.common.calls[1].entry, s.common.calls[1].number) = (2, number);
     };
-    assert_eq!(offer(&twice), unsound);
+    assert_eq!(offer(&|s| second(s, 7)), unsound);
+    assert_eq!(offer(&|s| second(s, 9)), None);
     let other_state = |s: &mut SheetState| {
         (s.armed[0].count, s.armed[0].triples) = (1, [1, 0, 0, 0]);
     };
     // All of one state, though not the one the entry was in.
     assert_eq!(offer(&other_state), None);
-    assert_eq!(offer(&|s| s.common.position = 0), None);
+    // Call 7 was entered at 1.
+    assert_eq!(offer(&|s| s.common.position = 0), unsound);
+    assert_eq!(offer(&|s| s.common.position = 9), None);
 }
 
 #[test]
 fn refusal_9_by_the_verdict() {
     let sheet = read();
+    let verdict = |position: u32, cause: Cause| Verdict {
+        position,
+        cause,
+        entry: cause.triple().map_or(0, |_| 1),
+    };
     let offer = |main: u8, position: u32, cause: Cause| {
         let mut state = one_open();
-        state.common.main = main;
-        state.common.verdict = Some(Verdict { position, cause });
+        (state.common.main, state.common.position) = (main, 2);
+        state.common.verdict = Some(verdict(position, cause));
         sheet
             .event(&state, &event(0, 1, 8))
             .err()
             .map(Refusal::number)
     };
     let both = |state, triple| Cause::Both { state, triple };
-    assert_eq!(offer(2, 1, Cause::State(2)), Some(10));
-    assert_eq!(offer(2, 1, both(2, 1)), Some(10));
-    assert_eq!(offer(1, 1, Cause::Triple(2)), Some(10));
+    assert_eq!(offer(2, 2, Cause::State(2)), Some(10));
+    assert_eq!(offer(2, 2, both(2, 1)), Some(10));
+    assert_eq!(offer(1, 2, Cause::Triple(2)), Some(10));
     // A triple alone is sound also where the main state is bad.
-    assert_eq!(offer(2, 1, Cause::Triple(0)), Some(10));
-    assert_eq!(offer(2, 2, Cause::State(2)), Some(9));
-    assert_eq!(offer(1, 1, Cause::State(1)), Some(9));
-    assert_eq!(offer(2, 1, Cause::State(1)), Some(9));
-    assert_eq!(offer(1, 1, Cause::State(2)), Some(9));
-    assert_eq!(offer(1, 1, Cause::Triple(3)), Some(9));
-    assert_eq!(offer(2, 1, both(2, 3)), Some(9));
-    assert_eq!(offer(1, 1, both(2, 0)), Some(9));
-    let mut fresh = sheet.fresh();
-    fresh.common.verdict = Some(Verdict {
-        position: 0,
-        cause: Cause::Triple(0),
-    });
-    assert_eq!(
-        sheet.event(&fresh, &event(0, 0, 1)),
-        Err(Refusal::HasVerdict)
-    );
+    assert_eq!(offer(2, 2, Cause::Triple(0)), Some(10));
+    assert_eq!(offer(2, 3, Cause::State(2)), Some(9));
+    assert_eq!(offer(1, 2, Cause::State(1)), Some(9));
+    assert_eq!(offer(2, 2, Cause::State(1)), Some(9));
+    assert_eq!(offer(1, 2, Cause::State(2)), Some(9));
+    assert_eq!(offer(1, 2, Cause::Triple(3)), Some(9));
+    assert_eq!(offer(2, 2, both(2, 3)), Some(9));
+    assert_eq!(offer(1, 2, both(2, 0)), Some(9));
+    // At position 0 a bad state may be found, but no call can have been entered.
+    for (cause, refusal) in [
+        (Cause::State(2), Refusal::HasVerdict),
+        (Cause::Triple(0), Refusal::Unsound),
+    ] {
+        let mut fresh = sheet.fresh();
+        (fresh.common.main, fresh.common.verdict) = (2, Some(verdict(0, cause)));
+        assert_eq!(sheet.event(&fresh, &event(0, 0, 1)), Err(refusal));
+    }
 }
 
 #[test]
@@ -576,7 +585,11 @@ fn refusal_9_on_networks() {
         network.event(&state, &event(0, 1, 8)).err()
     };
     let unsound = Some(Refusal::Unsound);
-    let checker = |call, template| Checker { call, template };
+    let checker = |call, template| Checker {
+        call,
+        template,
+        entry: 1,
+    };
     assert_eq!(offer(&|_| {}), None);
     let changes: [Change<NetworkState>; 9] = [
         &|s| s.living = 65,
@@ -655,9 +668,11 @@ fn refusals_10_to_15_in_order() {
     assert_eq!(answer(&as_is, &event(1, 1, 7)), Some(15));
     assert_eq!(answer(&as_is, &event(1, 0, 7)), None);
     let verdict = |c: &mut reference::implementation::state::Common| {
+        c.position = 2;
         c.verdict = Some(Verdict {
-            position: 1,
+            position: 2,
             cause: Cause::Triple(0),
+            entry: 1,
         })
     };
     // 10 before 11, 11 before 12, 12 before 13 and 15.
@@ -719,6 +734,7 @@ fn a_network_may_create_a_checker_twice_and_out_of_order() {
     let verdict = Verdict {
         position: 2,
         cause: Cause::Triple(1),
+        entry: 1,
     };
     assert_eq!(state.common.verdict, Some(verdict));
     assert_eq!(state.living, 0);

@@ -70,7 +70,7 @@ fn line(records: &[Record]) -> String {
 #[test]
 fn the_log_above() {
     let input = [&SHEET_A[..], &LOG].concat();
-    let both = "violated 2 state - triple 0\nviolated 2 state - triple 0\n";
+    let both = "violated 2 state - triple 0 entry 1\nviolated 2 state - triple 0 entry 1\n";
     assert_eq!(output(&input), both);
     assert_eq!(write_log(2, &[entry(7, 8, 0), exit(7, 8, 7)]), LOG);
 }
@@ -93,7 +93,7 @@ fn exit_values_8_8_are_clean() {
 fn exit_values_7_7_fail_for_8_was_declared_at_entry() {
     assert_eq!(
         line(&[entry(7, 8, 0), exit(7, 7, 7)]),
-        "violated 2 state - triple 0"
+        "violated 2 state - triple 0 entry 1"
     );
 }
 
@@ -240,7 +240,7 @@ fn records_after_a_verdict_are_not_judged() {
         record(9, 0, 0, 0),
         exit(3, 0, 0),
     ];
-    assert_eq!(line(&records), "violated 2 state - triple 0");
+    assert_eq!(line(&records), "violated 2 state - triple 0 entry 1");
 }
 
 #[test]

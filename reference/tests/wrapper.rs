@@ -108,13 +108,19 @@ fn the_first_line_decides_the_exit_status() {
         (0, CLEAN),
         (
             1,
-            "violated 2 state - triple 0\nviolated 2 state - triple 0\n",
+            "violated 2 state - triple 0 entry 1\nviolated 2 state - triple 0 entry 1\n",
         ),
         (2, "refused 3\nrefused 3\n"),
         (2, "refused 13 at 2\nrefused 13 at 2\n"),
         (2, "too long\n"),
-        (0, "clean 1 state 0 open 0\nviolated 1 state 0 triple -\n"),
-        (1, "violated 1 state 0 triple -\nclean 1 state 0 open 0\n"),
+        (
+            0,
+            "clean 1 state 0 open 0\nviolated 1 state 0 triple - entry -\n",
+        ),
+        (
+            1,
+            "violated 1 state 0 triple - entry -\nclean 1 state 0 open 0\n",
+        ),
         (2, "refused 1\nclean 1 state 0 open 0\n"),
     ] {
         let program = script(&place, "program", &format!("printf '%s' '{lines}'"));
@@ -311,7 +317,7 @@ fn it_builds_the_program_once() {
     );
     script(&place.join("bin"), "rt", &text);
     fs::create_dir_all(place.join("target/bin")).unwrap();
-    let lines = "violated 2 state - triple 0\nviolated 2 state - triple 0\n";
+    let lines = "violated 2 state - triple 0 entry 1\nviolated 2 state - triple 0 entry 1\n";
     let output = watch_in(&place, &place.join("watch"));
     assert_answer(&output, 1, lines);
     let said = String::from_utf8_lossy(&output.stderr);

@@ -28,6 +28,6 @@ translate-realises S = record {
   bad = refl;
   initial = refl;
   moves = moved-same S;
-  creates = created-same S;
+  creates = λ k p e a b c. created-same S k e a b c p;
   judges = judged-same S;
 }

@@ -4,7 +4,7 @@ use mathlib.Core.Logic.{_↔_}
 use mathlib.Core.Bool.{true, false, not, cond, _&&_}
 use mathlib.Core.Option.{none, some}
 use mathlib.Core.List.{List, [], _∷_, _++_, map}
-use Prim.Native.Nat.{ℕ, suc, _≤_, _<_}
+use Prim.Native.Nat.{ℕ, suc, _+_, _≤_, _<_}
 use lib.Dec.{eqb}
 use lib.ListN.{length}
 use Rattle.sheet.specs.Parts.{Sheet}
@@ -16,7 +16,7 @@ use Rattle.step.specs.Moves.{Configuration, seen, moved}
 use Rattle.step.specs.Answers.{Response, taken, declined}
 use Rattle.monitor.specs.Monitor.{initial, tripleIn, armedBy}
 use Rattle.monitor.specs.Published.{reached, inOrder, Counterexample}
-use Rattle.monitor.specs.Demand.{staysOpen, stillOpen, openedBy, refusalAfter, Clear, Finds}
+use Rattle.monitor.specs.Demand.{staysOpen, stillOpen, refusalAfter, Clear, Finds}
 use Rattle.agreement.specs.Shown.{Told, Living, Shown, openCall}
 
 -- The answers to the events of a list, and which are taken: w before the list, u with it.
@@ -47,20 +47,20 @@ pub record Due (S : Sheet) (w : List Event) (n i : ℕ) : Type 0 where
 abbrev pub many : ℕ → ℕ → List Living → ℕ
 many n i row = length (keep (λ (h : Living). eqb (h .number) n && eqb (h .triple) i) row)
 
--- One living checker for each call number and triple that are due, with the values at that entry, no other, and at most 64.
+-- One living checker for each call number and triple that are due, with the values and the position of that entry, no other, and at most 64.
 pub record Exactly (S : Sheet) (w : List Event) (row : List Living) : Type 0 where
   pub due : (n i : ℕ) → many n i row ≡ 1 ↔ Due S w n i
   pub once : (n i : ℕ) → many n i row ≤ 1
-  pub values : (h : Living) → Among h row → (d : Due S w (h .number) (h .triple)) × (h .entry ≡ d .entry .values)
+  pub values : (h : Living) → Among h row → (d : Due S w (h .number) (h .triple)) × (h .values ≡ d .entry .values) × (h .entry ≡ length (d .w₁) + 1)
   pub few : length row ≤ 64
 
 -- The row: "by calls in order of entry, then in triple order, with call number, triple number and the values at entry". The configuration is the one held before
--- the first of the events.
-unfoldable pub dueFrom : Sheet → Configuration → List Event → List Living
-dueFrom S k [] = []
-dueFrom S k (e ∷ w) =
-    cond (staysOpen e w) (map (λ i. record { number = e .number; triple = i; entry = e .values }) (armedBy S k e)) []
-    ++ dueFrom S (moved (S .common) (S .transitions) k e) w
+-- the first of the events, which stands at the position.
+unfoldable pub dueFrom : Sheet → Configuration → ℕ → List Event → List Living
+dueFrom S k position [] = []
+dueFrom S k position (e ∷ w) =
+    cond (staysOpen e w) (map (λ i. record { number = e .number; triple = i; entry = position; values = e .values }) (armedBy S k e)) []
+    ++ dueFrom S (moved (S .common) (S .transitions) k e) (position + 1) w
 
 -- What is shown after a list: "no verdict" just while no prefix of the events taken is a counterexample, else that counterexample's; their number; the
 -- configuration that they reach; the calls that they leave open; and the checkers that are due.
@@ -68,10 +68,10 @@ pub record Meant (S : Sheet) (es : List Event) (r : Shown) : Type 0 where
   pub events : List Event
   pub answers : Answers S [] es (r .answers) events
   pub unjudged : r .verdict ≡ none ↔ Clear S (inOrder S) events
-  pub judged : (v : Told) → r .verdict ≡ some v ↔ Finds S (inOrder S) events (v .position) (v .state) (v .triple)
+  pub judged : (v : Told) → r .verdict ≡ some v ↔ Finds S (inOrder S) events (v .position) (v .state) (v .triple) (v .entry)
   pub position : r .position ≡ length events
   pub main : r .main ≡ reached S events .main
   pub variables : r .variables ≡ reached S events .variables
-  pub calls : r .calls ≡ map (λ (e : Event). openCall (openedBy e)) (stillOpen events)
-  pub checkers : r .checkers ≡ dueFrom S (initial S) events
+  pub calls : r .calls ≡ map openCall (stillOpen events)
+  pub checkers : r .checkers ≡ dueFrom S (initial S) 1 events
   pub exactly : Exactly S events (r .checkers)

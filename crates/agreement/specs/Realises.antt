@@ -21,6 +21,6 @@ pub record Realises (S : Sheet) (N : Network) : Type 0 where
   pub bad : N .common .bad ≡ S .common .bad
   pub initial : N .common .initial ≡ S .common .initial
   pub moves : (k : Configuration) (e : Event) → moved (N .common) (bases N) k e ≡ moved (S .common) (S .transitions) k e
-  pub creates : (k : Configuration) (e : Event) → isEntry e ≡ true → k .main < S .common .states → e .unit < S .common .units
-      → created N k e ≡ map (λ i. record { number = e .number; template = i }) (armedBy S k e)
+  pub creates : (k : Configuration) (position : ℕ) (e : Event) → isEntry e ≡ true → k .main < S .common .states → e .unit < S .common .units
+      → created N k position e ≡ map (λ i. record { number = e .number; template = i; entry = position }) (armedBy S k e)
   pub judges : (i : ℕ) (E : Environment) → meets (N .common) (templateIn N i .postcondition) E ≡ meets (S .common) (tripleIn S i .postcondition) E

@@ -40,44 +40,44 @@ rows =
         position = 2;
         main = 0;
         variables = 1 ∷ [];
-        calls = record { number = 7; unit = 0 } ∷ record { number = 300; unit = 1 } ∷ [];
-        checkers = record { number = 7; triple = 0; entry = 5 ∷ [] } ∷ record { number = 7; triple = 2; entry = 5 ∷ [] } ∷ record { number = 300; triple = 1; entry = 9 ∷ [] } ∷ [];
+        calls = record { number = 7; unit = 0; entry = 1 } ∷ record { number = 300; unit = 1; entry = 2 } ∷ [];
+        checkers = record { number = 7; triple = 0; entry = 1; values = 5 ∷ [] } ∷ record { number = 7; triple = 2; entry = 1; values = 5 ∷ [] } ∷ record { number = 300; triple = 1; entry = 2; values = 9 ∷ [] } ∷ [];
       };
     }
     ∷ record {
       events = entry 0 7 5 ∷ entry 1 300 9 ∷ exit 0 7 6 ∷ exit 1 300 9 ∷ [];
       shown = record {
         answers = taken ∷ taken ∷ taken ∷ declined 10 ∷ [];
-        verdict = some (record { position = 3; state = none; triple = some 0 });
+        verdict = some (record { position = 3; state = none; triple = some 0; entry = 1 });
         position = 3;
         main = 0;
         variables = 1 ∷ [];
-        calls = record { number = 300; unit = 1 } ∷ [];
-        checkers = record { number = 300; triple = 1; entry = 9 ∷ [] } ∷ [];
+        calls = record { number = 300; unit = 1; entry = 2 } ∷ [];
+        checkers = record { number = 300; triple = 1; entry = 2; values = 9 ∷ [] } ∷ [];
       };
     }
     ∷ record {
       events = entry 0 7 5 ∷ entry 1 300 9 ∷ exit 1 300 9 ∷ [];
       shown = record {
         answers = taken ∷ taken ∷ taken ∷ [];
-        verdict = some (record { position = 3; state = some 2; triple = none });
+        verdict = some (record { position = 3; state = some 2; triple = none; entry = 0 });
         position = 3;
         main = 2;
         variables = 1 ∷ [];
-        calls = record { number = 7; unit = 0 } ∷ [];
-        checkers = record { number = 7; triple = 0; entry = 5 ∷ [] } ∷ record { number = 7; triple = 2; entry = 5 ∷ [] } ∷ [];
+        calls = record { number = 7; unit = 0; entry = 1 } ∷ [];
+        checkers = record { number = 7; triple = 0; entry = 1; values = 5 ∷ [] } ∷ record { number = 7; triple = 2; entry = 1; values = 5 ∷ [] } ∷ [];
       };
     }
     ∷ record {
       events = entry 0 7 5 ∷ entry 0 8 6 ∷ exit 1 7 5 ∷ entry 0 7 5 ∷ entry 1 9 4 ∷ exit 0 7 5 ∷ exit 1 9 3 ∷ [];
       shown = record {
         answers = taken ∷ taken ∷ declined 15 ∷ declined 13 ∷ taken ∷ taken ∷ taken ∷ [];
-        verdict = some (record { position = 5; state = some 2; triple = some 1 });
+        verdict = some (record { position = 5; state = some 2; triple = some 1; entry = 3 });
         position = 5;
         main = 2;
         variables = 2 ∷ [];
-        calls = record { number = 8; unit = 0 } ∷ [];
-        checkers = record { number = 8; triple = 0; entry = 6 ∷ [] } ∷ [];
+        calls = record { number = 8; unit = 0; entry = 2 } ∷ [];
+        checkers = record { number = 8; triple = 0; entry = 2; values = 6 ∷ [] } ∷ [];
       };
     }
     ∷ []

@@ -39,20 +39,23 @@ unfoldable pub offeredTo : List ℕ → List Event → Followed NetworkState
 offeredTo n es = follow (offerOf n) (freshOf n) es
 
 -- A verdict: "the event's position", "the bad state, the lowest failing triple, or both". An open call: "number and unit". A living checker: "call number, triple
--- number and the values at entry", "template for triple".
+-- number and the values at entry", "template for triple". Each with the position of the call's entry (document 02, request 4).
 pub record Told : Type 0 where
   pub position : ℕ
   pub state : Option ℕ
   pub triple : Option ℕ
+  pub entry : ℕ
 
 pub record Opened : Type 0 where
   pub number : ℕ
   pub unit : ℕ
+  pub entry : ℕ
 
 pub record Living : Type 0 where
   pub number : ℕ
   pub triple : ℕ
-  pub entry : List ℕ
+  pub entry : ℕ
+  pub values : List ℕ
 
 -- "each answer (taken, or the refusal's number) and, after the list, verdict, position, main state, variables, open calls (number and unit, in order of
 -- entry) and the row of living checkers"
@@ -67,15 +70,15 @@ pub record Shown : Type 0 where
 
 abbrev pub told : Option Verdict → Option Told
 told none = none
-told (some v) = some (record { position = v .position; state = causeState (v .cause); triple = causeTriple (v .cause) })
+told (some v) = some (record { position = v .position; state = causeState (v .cause); triple = causeTriple (v .cause); entry = v .entry })
 
 abbrev pub openCall : Call → Opened
-openCall c = record { number = c .number; unit = c .unit }
+openCall c = record { number = c .number; unit = c .unit; entry = c .entry }
 
 -- By the definition: "one for each triple armed, by calls in order of entry, then in triple order, with call number, triple number and the values at entry"
 unfoldable pub armedRow : List Monitor.Armed → List Living
 armedRow [] = []
-armedRow (a ∷ l) = map (λ i. record { number = a .call .number; triple = i; entry = a .call .kept }) (a .armed) ++ armedRow l
+armedRow (a ∷ l) = map (λ i. record { number = a .call .number; triple = i; entry = a .call .entry; values = a .call .kept }) (a .armed) ++ armedRow l
 
 unfoldable pub shownBySheet : Followed Monitor.State → Shown
 shownBySheet r =
@@ -96,7 +99,7 @@ keptBy none = []
 keptBy (some c) = c .kept
 
 abbrev pub living : List Call → Checker → Living
-living calls h = record { number = h .number; triple = h .template; entry = keptBy (first (ofNumber (h .number)) calls) }
+living calls h = record { number = h .number; triple = h .template; entry = h .entry; values = keptBy (first (ofNumber (h .number)) calls) }
 
 abbrev pub shownIn : List Response → State → Shown
 shownIn answers σ =

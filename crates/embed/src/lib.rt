@@ -10,21 +10,22 @@ ghost use Rattle.monitor.specs.Answers as OnSheet;
 ghost use Rattle.network.specs.Answers as OnNetwork;
 ghost use Rattle.translation.specs.Answer.{translatedPaper, translatedOf, bufferOf, cardOf, cardBufferOf};
 ghost use Rattle.lines.specs.Lines.{linesOf};
-ghost use Rattle.embed.specs.Codes.{codeOf, firstOf, secondOf, thirdOf, orNone, refusalOf, sizeOf};
+ghost use Rattle.embed.specs.Codes.{codeOf, firstOf, secondOf, thirdOf, fourthOf, orNone, refusalOf, sizeOf};
 use step::Cause;
 use step::RunAnswer;
 use translation::Translated;
 
-// An answer as four numbers.
+// An answer as five numbers.
 struct Numbers {
     code: u32,
     first: u32,
     second: u32,
     third: u32,
+    fourth: u32,
 }
 
 // Runs a log from the fresh state of a sheet: answers the code of what it comes to, and its numbers
-// through the last three.
+// through the last four.
 #[no_mangle]
 pub extern "C" fn watch_run(
     sheet: &[u8],
@@ -32,16 +33,19 @@ pub extern "C" fn watch_run(
     first: &mut u32,
     second: &mut u32,
     third: &mut u32,
+    fourth: &mut u32,
 ) -> u32
     ensures { λ r. ⌜ r ≡ codeOf (OnSheet.runOf (now (sheet .entry)) (now (log .entry))) ⌝ }
     ensures { λ _. ⌜ now (first .exit) ≡ firstOf (OnSheet.runOf (now (sheet .entry)) (now (log .entry))) ⌝ }
     ensures { λ _. ⌜ now (second .exit) ≡ secondOf (OnSheet.runOf (now (sheet .entry)) (now (log .entry))) ⌝ }
     ensures { λ _. ⌜ now (third .exit) ≡ thirdOf (OnSheet.runOf (now (sheet .entry)) (now (log .entry))) ⌝ }
+    ensures { λ _. ⌜ now (fourth .exit) ≡ fourthOf (OnSheet.runOf (now (sheet .entry)) (now (log .entry))) ⌝ }
 {
     let n = numbered(monitor::run(sheet, log));
     *first = n.first;
     *second = n.second;
     *third = n.third;
+    *fourth = n.fourth;
     n.code
 }
 
@@ -53,16 +57,19 @@ pub extern "C" fn watch_run_network(
     first: &mut u32,
     second: &mut u32,
     third: &mut u32,
+    fourth: &mut u32,
 ) -> u32
     ensures { λ r. ⌜ r ≡ codeOf (OnNetwork.runOf (now (network .entry)) (now (log .entry))) ⌝ }
     ensures { λ _. ⌜ now (first .exit) ≡ firstOf (OnNetwork.runOf (now (network .entry)) (now (log .entry))) ⌝ }
     ensures { λ _. ⌜ now (second .exit) ≡ secondOf (OnNetwork.runOf (now (network .entry)) (now (log .entry))) ⌝ }
     ensures { λ _. ⌜ now (third .exit) ≡ thirdOf (OnNetwork.runOf (now (network .entry)) (now (log .entry))) ⌝ }
+    ensures { λ _. ⌜ now (fourth .exit) ≡ fourthOf (OnNetwork.runOf (now (network .entry)) (now (log .entry))) ⌝ }
 {
     let n = numbered(network::run(network, log));
     *first = n.first;
     *second = n.second;
     *third = n.third;
+    *fourth = n.fourth;
     n.code
 }
 
@@ -111,7 +118,7 @@ fn hand_over(answer: Translated, size: &mut usize) -> u32
 }
 
 fn numbered(answer: RunAnswer) -> Numbers
-    ensures { λ r. ⌜ (r .code ≡ codeOf (runPaper answer)) × (r .first ≡ firstOf (runPaper answer)) × (r .second ≡ secondOf (runPaper answer)) × (r .third ≡ thirdOf (runPaper answer)) ⌝ }
+    ensures { λ r. ⌜ (r .code ≡ codeOf (runPaper answer)) × (r .first ≡ firstOf (runPaper answer)) × (r .second ≡ secondOf (runPaper answer)) × (r .third ≡ thirdOf (runPaper answer)) × (r .fourth ≡ fourthOf (runPaper answer)) ⌝ }
 {
     match answer {
         RunAnswer::Violated(v) => {
@@ -121,6 +128,7 @@ fn numbered(answer: RunAnswer) -> Numbers
                 first: v.position,
                 second: state(cause),
                 third: triple(cause),
+                fourth: v.entry,
             }
         }
         RunAnswer::Clean(n, q, k) => Numbers {
@@ -128,18 +136,21 @@ fn numbered(answer: RunAnswer) -> Numbers
             first: n,
             second: q as u32,
             third: k as u32,
+            fourth: 0,
         },
         RunAnswer::Refused(n) => Numbers {
             code: 2,
             first: n as u32,
             second: 0,
             third: 0,
+            fourth: 0,
         },
         RunAnswer::RefusedAt(n, r) => Numbers {
             code: 3,
             first: n as u32,
             second: r,
             third: 0,
+            fourth: 0,
         },
     }
 }

@@ -41,14 +41,14 @@ module _ (row : List ℕ) (i : ℕ) (c : Call) (a : Arms) where
 
   pub put-there : i < 16 → (n u k x y z w : ℕ) → n ≡ c .number → u ≡ c .unit → k ≡ a .count → x ≡ getD (a .numbers) 0 0 → y ≡ getD (a .numbers) 1 0 → z ≡ getD (a .numbers) 2 0 → w ≡ getD (a .numbers) 3 0
       → length (a .numbers) ≡ 4 → length (c .kept) ≡ 8
-      → set (set (set (set (set (set (set (set (set (set (set (set (set (set (set (set row (16 * i) n) (16 * i + 1) u) (16 * i + 2) k) (16 * i + 3) x) (16 * i + 4) y) (16 * i + 5) z) (16 * i + 6) w) (16 * i + 7) 0)
+      → set (set (set (set (set (set (set (set (set (set (set (set (set (set (set (set row (16 * i) n) (16 * i + 1) u) (16 * i + 2) k) (16 * i + 3) x) (16 * i + 4) y) (16 * i + 5) z) (16 * i + 6) w) (16 * i + 7) (c .entry))
       (16 * i + 8) (getD (c .kept) 0 0)) (16 * i + 9) (getD (c .kept) 1 0)) (16 * i + 10) (getD (c .kept) 2 0)) (16 * i + 11) (getD (c .kept) 3 0)) (16 * i + 12) (getD (c .kept) 4 0)) (16 * i + 13) (getD (c .kept) 5 0)) (16 * i + 14) (getD (c .kept) 6 0)) (16 * i + 15) (getD (c .kept) 7 0)
       ≡ putAt row i c a
   unfolding putAt
   put-there h n u k x y z w en eu ek ex ey ez ew four eight =
       rw (lt-ltb i 16 h, add-suc at 14, add-suc at 13, add-suc at 12, add-suc at 11, add-suc at 10, add-suc at 9, add-suc at 8, add-suc at 7, add-suc at 6, add-suc at 5, add-suc at 4, add-suc at 3, add-suc at 2, add-suc at 1, add-one at)
-      ((λ j. sets row at (en j ∷ eu j ∷ ek j ∷ ex j ∷ ey j ∷ ez j ∷ ew j ∷ 0 ∷ reads (c .kept) 0 8))
-      ∙ (λ j. sets row at (c .number ∷ c .unit ∷ a .count ∷ (reads-all 4 0 (a .numbers) four j ++ 0 ∷ reads-all 8 0 (c .kept) eight j))))
+      ((λ j. sets row at (en j ∷ eu j ∷ ek j ∷ ex j ∷ ey j ∷ ez j ∷ ew j ∷ c .entry ∷ reads (c .kept) 0 8))
+      ∙ (λ j. sets row at (c .number ∷ c .unit ∷ a .count ∷ (reads-all 4 0 (a .numbers) four j ++ c .entry ∷ reads-all 8 0 (c .kept) eight j))))
 
 -- what is taken out, by the words from its place on
 word-there : (row : List ℕ) (i j : ℕ) → getD row (16 * i + j) 0 ≡ getD (drop (16 * i) row) j 0
@@ -60,7 +60,7 @@ module _ (row : List ℕ) (i : ℕ) where
   no-call-there P h r e = rw (le-ltb i 16 h) e
 
   pub call-there : (P : ℕ) → i < 16 → (program kept : List ℕ) → program ≡ take P (take (16 * i + 16 - (16 * i + 8)) (drop (16 * i + 8) row)) → kept ≡ fit 8 0 program
-      → record { number = getD row (16 * i) 0 % 65536; unit = getD row (16 * i + 1) 0 % 256; kept = kept } ≡ callAt row i P
+      → record { number = getD row (16 * i) 0 % 65536; unit = getD row (16 * i + 1) 0 % 256; entry = getD row (16 * i + 7) 0; kept = kept } ≡ callAt row i P
   unfolding callAt
   call-there P h program kept e f =
       let at = 16 * i in
@@ -68,7 +68,7 @@ module _ (row : List ℕ) (i : ℕ) where
       let eight : at + 16 - (at + 8) ≡ 8 = omega arith in
       let whole : take (at + 16 - (at + 8)) (drop (at + 8) row) ≡ take 8 (drop 8 (drop at row)) = ap (λ (k : ℕ). take k (drop (at + 8) row)) eight ∙ ap (take 8) (sym (drop-drop 8 at row)) in
       let values : kept ≡ fit 8 0 (take P (take 8 (drop 8 (drop at row)))) = f ∙ ap (fit 8 0) (e ∙ ap (take P) whole) in
-      rw (lt-ltb i 16 h) (λ j. record { number = first j % 65536; unit = word-there row i 1 j % 256; kept = values j })
+      rw (lt-ltb i 16 h) (λ j. record { number = first j % 65536; unit = word-there row i 1 j % 256; entry = word-there row i 7 j; kept = values j })
 
   pub no-arms-there : 16 ≤ i → record { count = 0; numbers = 0 ∷ 0 ∷ 0 ∷ 0 ∷ [] } ≡ armsAt row i
   unfolding armsAt
@@ -107,7 +107,7 @@ arms-there row i h long n en x y z w ex ey ez ew =
 
 -- One more call in a row: those before it, and its words.
 words-length : (c : Call) (a : Arms) → length (c .kept) ≡ 8 → length (a .numbers) ≡ 4 → length (wordsOf c a) ≡ 16
-words-length c a eight four = omega (arith, length-append (a .numbers) (0 ∷ c .kept))
+words-length c a eight four = omega (arith, length-append (a .numbers) (c .entry ∷ c .kept))
 
 module _ (row : List ℕ) (n : ℕ) (c : Call) (a : Arms) (few : n < 16) (long : length row ≡ 256) where
   pub put-length : length (putAt row n c a) ≡ 256
@@ -141,7 +141,7 @@ module _ (row : List ℕ) (i : ℕ) (few : i < 16) where
   call-words P =
       let w = drop (16 * i) row in
       let word : (j : ℕ) → j < 16 → getD w j 0 ≡ getD (take 16 w) j 0 = λ j h. sym (getD-take 16 w j 0 h) in
-      rw (lt-ltb i 16 few) (λ j. record { number = word 0 (omega arith) j % 65536; unit = word 1 (omega arith) j % 256; kept = fit 8 0 (take P (sym (part-of 8 8 w (omega arith)) j)) })
+      rw (lt-ltb i 16 few) (λ j. record { number = word 0 (omega arith) j % 65536; unit = word 1 (omega arith) j % 256; entry = word 7 (omega arith) j; kept = fit 8 0 (take P (sym (part-of 8 8 w (omega arith)) j)) })
 
   pub arms-words : armsAt row i ≡ armsIn (take 16 (drop (16 * i) row))
   unfolding armsAt
@@ -162,7 +162,7 @@ call-out : (P : ℕ) (w : List ℕ) → narrow (armedOf P w) ≡ true → callIn
 unfolding armedOf
 call-out P w h =
     let (n, (u, r)) = simp and-iff at h in
-    λ j. record { number = mod-eq-of-lt (ltb-true (getD w 0 0) 65536 n) j; unit = mod-eq-of-lt (ltb-true (getD w 1 0) 256 u) j; kept = fit 8 0 (take P (take 8 (drop 8 w))) }
+    λ j. record { number = mod-eq-of-lt (ltb-true (getD w 0 0) 65536 n) j; unit = mod-eq-of-lt (ltb-true (getD w 1 0) 256 u) j; entry = getD w 7 0; kept = fit 8 0 (take P (take 8 (drop 8 w))) }
 
 arms-out : (P : ℕ) (w : List ℕ) → narrow (armedOf P w) ≡ true → armsIn w ≡ armsFor (armedOf P w .armed)
 unfolding armedOf
@@ -197,7 +197,7 @@ module _ (M : Machine) (last : ℕ) (s p : List ℕ) (c : Carries M last s p) (�
   offer-narrow h = go (refusal M σ e) (isEntry e)
     where
       new : Armed
-      new = record { call = record { number = e .number; unit = e .unit; kept = e .values }; armed = M .arming (σ .configuration) e }
+      new = record { call = record { number = e .number; unit = e .unit; entry = σ .position + 1; kept = e .values }; armed = M .arming (σ .configuration) e }
 
       new-small : narrow new ≡ true
       new-small = and-both (lt-ltb (e .number) 65536 number) (and-both (lt-ltb (e .unit) 256 unit) (every-weaker (λ i. ltb i last) (λ i. ltb i 256) (λ i k. lt-ltb i 256 (omega (arith, ltb-true i last k, c .fewLast))) (M .arming (σ .configuration) e) (c .armsThere (σ .configuration) e)))

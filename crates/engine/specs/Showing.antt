@@ -20,7 +20,7 @@ use Rattle.engine.specs.Walk.{holdsBy, foundIn, armedIn, entries, mainAf
 
 -- a call by its words
 abbrev pub callOf : ℕ → List ℕ → Call
-callOf programs w = record { number = getD w 0 0; unit = getD w 1 0; kept = take programs (take mostValues (drop 8 w)) }
+callOf programs w = record { number = getD w 0 0; unit = getD w 1 0; entry = getD w 7 0; kept = take programs (take mostValues (drop 8 w)) }
 
 unfoldable pub armedOf : ℕ → List ℕ → Armed
 armedOf programs w = record { call = callOf programs w; armed = take (getD w 2 0) (take mostArmed (drop 3 w)) }

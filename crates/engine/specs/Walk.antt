@@ -41,7 +41,7 @@ foundIn s p t E = otherwise 96 (first (λ i. holdsBy s (guardOf p i) E) (chain (
 unfoldable pub armedIn : List ℕ → List ℕ → ℕ → Environment → List ℕ
 armedIn s p i E = map (numberOf p) (keep (λ j. holdsBy s (askedOf p j) E) (chain (behindOf p) 384 384 i))
 
--- The words of a call are sixteen: its number, its unit, how many are armed, four of them, one of no use, the eight values kept.
+-- The words of a call are sixteen: its number, its unit, how many are armed, four of them, the position of its entry, the eight values kept.
 unfoldable pub entries : ℕ → List ℕ → List (List ℕ)
 entries zero l = []
 entries (suc n) l = take 16 l ∷ entries n (drop 16 l)
@@ -95,13 +95,13 @@ refusalIn p r row g at =
     cond (isJudged (verdictIn (r .outcome))) 10 (cond (not (leb (g .kind) 1 && (ltb (g .unit) (unitsIn p) && eqb (g .count) (programsIn p)))) 11
     (cond (eqb (r .position) lastPosition) 12 (cond (eqb (g .kind) 0) (entryRefusal (r .opened) at) (exitRefusal row (r .opened) at (g .unit)))))
 
--- what stands beside the calls and variables after an event, for the lowest number that fails
-abbrev pub runAfter : List ℕ → ℕ → ℕ → ℕ → ℕ → Running
-runAfter p position main opened low = record { main = main; opened = opened; position = position + 1; outcome = outcomeOf (verdict (badIn p) (position + 1) main (numberIn low)) }
+-- what stands beside the calls and variables after an event, for the lowest number that fails and the position of the entry of its call
+abbrev pub runAfter : List ℕ → ℕ → ℕ → ℕ → ℕ → ℕ → Running
+runAfter p position main opened low entry = record { main = main; opened = opened; position = position + 1; outcome = outcomeOf (verdict (badIn p) (position + 1) main (numberIn low) entry) }
 
--- the row with a call behind the others: its number and unit, its values, and what is armed for it
-unfoldable pub rowWith : List ℕ → ℕ → ℕ → ℕ → List ℕ → List ℕ → List ℕ
-rowWith row at number unit values armed = set (sets (sets (sets row at (number ∷ unit ∷ [])) (at + 8) values) (at + 3) (take mostArmed armed)) (at + 2) (length armed)
+-- the row with a call behind the others: its number and unit, the position of its entry and its values, and what is armed for it
+unfoldable pub rowWith : List ℕ → ℕ → ℕ → ℕ → ℕ → List ℕ → List ℕ → List ℕ
+rowWith row at number unit entry values armed = set (sets (sets (sets row at (number ∷ unit ∷ [])) (at + 7) (entry ∷ values)) (at + 3) (take mostArmed armed)) (at + 2) (length armed)
 
 unfoldable pub enteredIn : List ℕ → List ℕ → Words → Given → List ℕ → Words
 enteredIn s p σ g values =
@@ -109,7 +109,7 @@ enteredIn s p σ g values =
     let E = seenIn p values (σ .variables) in
     let cell = cellOf (r .main) (g .unit) in
     let t = foundIn s p (firstOf p (2 * cell)) E in
-    words (runAfter p (r .position) (mainAfter p t (r .main)) (r .opened + 1) 256) (rowWith (σ .row) (16 * r .opened) (g .number) (g .unit) values (armedIn s p (candidateOf p cell t) E)) (variablesAfter s p t values (σ .variables))
+    words (runAfter p (r .position) (mainAfter p t (r .main)) (r .opened + 1) 256 0) (rowWith (σ .row) (16 * r .opened) (g .number) (g .unit) (r .position + 1) values (armedIn s p (candidateOf p cell t) E)) (variablesAfter s p t values (σ .variables))
 
 -- the row without the call at a place
 unfoldable pub rowWithout : List ℕ → ℕ → ℕ → List ℕ
@@ -120,7 +120,7 @@ exitedIn s p σ unit at values =
     let r = σ .run in
     let E = seenIn p values (σ .variables) in
     let t = foundIn s p (firstOf p (2 * cellOf (r .main) unit + 1)) E in
-    words (runAfter p (r .position) (mainAfter p t (r .main)) (r .opened - 1) (lowIn s p (σ .row) at (E .programs) (E .monitors))) (rowWithout (σ .row) at (r .opened)) (variablesAfter s p t values (σ .variables))
+    words (runAfter p (r .position) (mainAfter p t (r .main)) (r .opened - 1) (lowIn s p (σ .row) at (E .programs) (E .monitors)) (getD (σ .row) (at + 7) 0)) (rowWithout (σ .row) at (r .opened)) (variablesAfter s p t values (σ .variables))
 
 -- A row has room for sixteen calls: a state with more is refused with 9. Else "an event that meets one of 10-15 is refused with the lowest and changes nothing; any
 -- other is taken".

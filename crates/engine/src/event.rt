@@ -49,10 +49,10 @@ pub(crate) fn entered(
     let t = find(s, plan, broad(plan[8 + 2 * cell]), program, monitor);
     let at = 16 * wide(run.opened);
     let first = candidate(plan, cell, t);
-    row::put(row, at, given, values);
+    row::put(row, at, given, run.position + 1, values);
     arm(s, plan, first, program, monitor, row, at);
     let main = moved(s, plan, t, run.main, variables, values);
-    after(plan, run.position, main, run.opened + 1, 256)
+    after(plan, run.position, main, run.opened + 1, 256, 0)
 }
 
 // An exit: what is armed for its call is judged, and its place is free.
@@ -71,17 +71,19 @@ pub(crate) fn exited(
     let program = condition::front(&values[..], broad(plan[1]));
     let monitor = condition::front(&variables[..], broad(plan[2]));
     let low = lowest_failing(s, plan, row, leaving.place, program, monitor);
+    let entry = row[leaving.place + 7];
     row::close(row, leaving.place, wide(run.opened));
     let cell = cell_of(run.main, leaving.unit);
     let t = find(s, plan, broad(plan[9 + 2 * cell]), program, monitor);
     let main = moved(s, plan, t, run.main, variables, values);
-    after(plan, run.position, main, run.opened - 1, low)
+    after(plan, run.position, main, run.opened - 1, low, entry)
 }
 
-// What stands beside the calls and variables after an event, for the lowest number that fails.
-fn after(plan: &[u16; PLAN], position: u32, main: u8, opened: u8, low: u16) -> Running
+// What stands beside the calls and variables after an event, for the lowest number that fails and the
+// position of the entry of its call.
+fn after(plan: &[u16; PLAN], position: u32, main: u8, opened: u8, low: u16, entry: u32) -> Running
     requires { ⌜ position < 4294967295 ⌝ }
-    ensures { λ r. ⌜ r ≡ runAfter (now (plan .entry)) position main opened low ⌝ }
+    ensures { λ r. ⌜ r ≡ runAfter (now (plan .entry)) position main opened low entry ⌝ }
 {
     let bad = plan[3];
     let next = position + 1;
@@ -89,7 +91,7 @@ fn after(plan: &[u16; PLAN], position: u32, main: u8, opened: u8, low: u16) -> R
         main,
         opened,
         position: next,
-        outcome: step::outcomes::outcome(bad, next, main, low),
+        outcome: step::outcomes::outcome(bad, next, main, low, entry),
     }
 }
 

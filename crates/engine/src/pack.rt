@@ -39,7 +39,7 @@ pub fn put(row: &mut [u32; 256], i: usize, call: Call, arms: Arms)
         row[at + 4] = word(numbers[1]);
         row[at + 5] = word(numbers[2]);
         row[at + 6] = word(numbers[3]);
-        row[at + 7] = 0;
+        row[at + 7] = call.entry;
         row[at + 8] = kept[0];
         row[at + 9] = kept[1];
         row[at + 10] = kept[2];
@@ -63,6 +63,7 @@ pub fn call_at(row: &[u32; 256], i: usize, programs: usize) -> Call
     Call {
         number: (all[at] % 65536) as u16,
         unit: (all[at + 1] % 256) as u8,
+        entry: all[at + 7],
         kept: step::rows::eight(condition::front(&all[at + 8..at + 16], programs)),
     }
 }

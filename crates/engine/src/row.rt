@@ -1,5 +1,5 @@
 // The words of the open calls, sixteen to a call: its number, its unit, how many numbers are armed for
-// it, four of them, one word of no use, the eight values kept.
+// it, four of them, the position of its entry, the eight values kept.
 
 ghost use mathlib.Core.Path.{_≡_};
 ghost use mathlib.Core.List.{[], _∷_};
@@ -87,14 +87,16 @@ fn exit_refusal(row: &[u32; 256], opened: usize, place: usize, unit: u32) -> u8
     }
 }
 
-// Stores the number, the unit and the values of a call, all eight of them: that takes two moves.
-pub(crate) fn put(row: &mut [u32; 256], at: usize, given: Given, values: &[u32; VALUES])
+// Stores the number, the unit, the position of its entry and the values of a call, all eight of them:
+// that takes two moves.
+pub(crate) fn put(row: &mut [u32; 256], at: usize, given: Given, entry: u32, values: &[u32; VALUES])
     requires { ⌜ at + 16 ≤ 256 ⌝ }
-    ensures { λ _. ⌜ now (row .exit) ≡ sets (sets (now (row .entry)) at (given .number ∷ given .unit ∷ [])) (at + 8) (now (values .entry)) ⌝ }
+    ensures { λ _. ⌜ now (row .exit) ≡ sets (sets (now (row .entry)) at (given .number ∷ given .unit ∷ [])) (at + 7) (entry ∷ now (values .entry)) ⌝ }
 {
     let v = &values[..];
     row[at] = long(given.number);
     row[at + 1] = word(given.unit);
+    row[at + 7] = entry;
     row[at + 8] = v[0];
     row[at + 9] = v[1];
     row[at + 10] = v[2];

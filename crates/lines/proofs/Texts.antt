@@ -40,3 +40,6 @@ module _ {o p q : List ℕ} {at m r a b : ℕ} where
 
 pub puts-most : {o p : List ℕ} {at : ℕ} {l : List ℕ} {r a b : ℕ} → Puts o p at l r a → a ≤ b → Puts o p at l r b
 puts-most w h = record { writes = w .writes; near = omega (arith, w .near) }
+
+pub puts-near : {o p : List ℕ} {at : ℕ} {l : List ℕ} {r a b : ℕ} → Puts o p at l r a → length l ≤ b → Puts o p at l r b
+puts-near w h = record { writes = w .writes; near = omega (arith, w .writes .next) }

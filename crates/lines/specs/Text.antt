@@ -22,6 +22,11 @@ abbrev pub orDash : Option ℕ → List ℕ
 orDash none = 45 ∷ []
 orDash (some n) = decimal n
 
+-- document 02, request 4: "with `-` where no triple failed"
+abbrev pub entryOrDash : Option ℕ → ℕ → List ℕ
+entryOrDash none entry = 45 ∷ []
+entryOrDash (some t) entry = decimal entry
+
 -- "violated ", "clean ", "refused "
 abbrev pub violatedText : List ℕ
 violatedText = 118 ∷ 105 ∷ 111 ∷ 108 ∷ 97 ∷ 116 ∷ 101 ∷ 100 ∷ 32 ∷ []
@@ -32,12 +37,15 @@ cleanText = 99 ∷ 108 ∷ 101 ∷ 97 ∷ 110 ∷ 32 ∷ []
 abbrev pub refusedText : List ℕ
 refusedText = 114 ∷ 101 ∷ 102 ∷ 117 ∷ 115 ∷ 101 ∷ 100 ∷ 32 ∷ []
 
--- " state ", " triple ", " open ", " at "
+-- " state ", " triple ", " entry ", " open ", " at "
 abbrev pub stateText : List ℕ
 stateText = 32 ∷ 115 ∷ 116 ∷ 97 ∷ 116 ∷ 101 ∷ 32 ∷ []
 
 abbrev pub tripleText : List ℕ
 tripleText = 32 ∷ 116 ∷ 114 ∷ 105 ∷ 112 ∷ 108 ∷ 101 ∷ 32 ∷ []
+
+abbrev pub entryText : List ℕ
+entryText = 32 ∷ 101 ∷ 110 ∷ 116 ∷ 114 ∷ 121 ∷ 32 ∷ []
 
 abbrev pub openText : List ℕ
 openText = 32 ∷ 111 ∷ 112 ∷ 101 ∷ 110 ∷ 32 ∷ []
@@ -52,9 +60,9 @@ newline = 10 ∷ []
 abbrev pub tooLong : List ℕ
 tooLong = 116 ∷ 111 ∷ 111 ∷ 32 ∷ 108 ∷ 111 ∷ 110 ∷ 103 ∷ 10 ∷ []
 
--- "`violated N state S triple T` (position; `-` for none), `clean N state S open K` (events, main state, open calls), `refused N`, or `refused N at R`"
+-- "`violated N state S triple T` (position; `-` for none)", and behind it, by request 4, "` entry E`"; "`clean N state S open K` (events, main state, open calls), `refused N`, or `refused N at R`"
 unfoldable pub line : Ending → List ℕ
-line (violated n q t) = violatedText ++ (decimal n ++ (stateText ++ (orDash q ++ (tripleText ++ (orDash t ++ newline)))))
+line (violated n q t m) = violatedText ++ (decimal n ++ (stateText ++ (orDash q ++ (tripleText ++ (orDash t ++ (entryText ++ (entryOrDash t m ++ newline)))))))
 line (clean n q k) = cleanText ++ (decimal n ++ (stateText ++ (decimal q ++ (openText ++ (decimal k ++ newline)))))
 line (refused n) = refusedText ++ (decimal n ++ newline)
 line (refusedAt n r) = refusedText ++ (decimal n ++ (atText ++ (decimal r ++ newline)))

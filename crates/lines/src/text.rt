@@ -40,15 +40,18 @@ fn violated(out: &mut [u8], at: usize, v: Verdict) -> usize
     match cause {
         Cause::BadState(q) => {
             let next = named(out, next, b" state ", word(q));
-            text(out, next, b" triple -\n")
+            text(out, next, b" triple - entry -\n")
         }
         Cause::Triple(t) => {
-            let next = named(out, next, b" state - triple ", word(t));
+            let next = text(out, next, b" state -");
+            let next = named(out, next, b" triple ", word(t));
+            let next = named(out, next, b" entry ", v.entry);
             text(out, next, b"\n")
         }
         Cause::Both(q, t) => {
             let next = named(out, next, b" state ", word(q));
             let next = named(out, next, b" triple ", word(t));
+            let next = named(out, next, b" entry ", v.entry);
             text(out, next, b"\n")
         }
     }
@@ -66,8 +69,8 @@ fn clean(out: &mut [u8], at: usize, n: u32, q: u8, k: u8) -> usize
 
 // A name, and a number in decimal behind it.
 fn named(out: &mut [u8], at: usize, name: &[u8], n: u32) -> usize
-    requires { ⌜ (at ≤ 2000) × (length (now name) ≤ 20) ⌝ }
-    ensures { λ r. ⌜ Puts (now (out .entry)) (now (out .exit)) at (now (name .entry) ++ decimal n) r 40 ⌝ }
+    requires { ⌜ (at ≤ 2000) × (length (now name) ≤ 10) ⌝ }
+    ensures { λ r. ⌜ Puts (now (out .entry)) (now (out .exit)) at (now (name .entry) ++ decimal n) r 30 ⌝ }
 {
     let next = text(out, at, name);
     let mut digits = [0u8; 20];

@@ -11,7 +11,7 @@ use Rattle.sheet.specs.Decode.{sheetOf}
 use Rattle.sheet.specs.Reading.{reading, sheetLayout}
 use Rattle.sheet.specs.Log.{Event}
 use Rattle.step.specs.Lists.{Among, any}
-use Rattle.step.specs.Calls.{mostCalls, lastPosition}
+use Rattle.step.specs.Calls.{mostCalls, lastPosition, Call}
 use Rattle.monitor.specs.declared.WatchState.{WatchState}
 use Rattle.monitor.specs.Published.{Leading, Breaks}
 use Rattle.monitor.specs.Demand.{stillOpen, refusalAfter, Taken, Violated}
@@ -35,13 +35,13 @@ Soundness = (s : List ℕ) → reading sheetLayout s ≡ 0 → SoundKept s
 -- Sentences of document 01 on calls, on traces.
 pub record Calls (S : Sheet) (R : Leading) : Type 0 where
   -- "its number may be used again afterwards": after an exit no call of its number is open
-  pub usedAgain : (w : List Event) (exit : Event) → exit .kind ≡ 1 → any (λ (c : Event). eqb (c .number) (exit .number)) (stillOpen (w ++ exit ∷ [])) ≡ false
+  pub usedAgain : (w : List Event) (exit : Event) → exit .kind ≡ 1 → any (λ (c : Call). eqb (c .number) (exit .number)) (stillOpen (w ++ exit ∷ [])) ≡ false
   -- "Exits need not come innermost first": whichever call is open can be left
-  pub anyExit : (w : List Event) (entry : Event) → Among entry (stillOpen w) → (exit : Event) → exit .kind ≡ 1 → exit .number ≡ entry .number → exit .unit ≡ entry .unit
+  pub anyExit : (w : List Event) (call : Call) → Among call (stillOpen w) → (exit : Event) → exit .kind ≡ 1 → exit .number ≡ call .number → exit .unit ≡ call .unit
       → exit .unit < S .common .units → length (exit .values) ≡ S .common .programs → (length w ≡ lastPosition → ⊥) → refusalAfter S false w exit ≡ 0
   -- "At most 16 calls are open."
   pub atMost : (w : List Event) → Taken S w → length (stillOpen w) ≤ mostCalls
   -- "A call still open when a log ends breaks nothing": a triple is broken by an exit alone
   pub byExit : (w : List Event) (i : ℕ) → Breaks S R w i → (u : List Event) × (exit : Event) × (w ≡ u ++ exit ∷ []) × (exit .kind ≡ 1)
   -- "Records after a verdict aren't judged."
-  pub later : (es rest : List Event) (n : ℕ) (q t : Option ℕ) → Violated S R es n q t → Violated S R (es ++ rest) n q t
+  pub later : (es rest : List Event) (n : ℕ) (q t : Option ℕ) (m : ℕ) → Violated S R es n q t m → Violated S R (es ++ rest) n q t m

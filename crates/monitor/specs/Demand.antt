@@ -3,7 +3,7 @@ use mathlib.Core.Path.{_≡_}
 use mathlib.Core.Logic.{_↔_}
 use mathlib.Core.Bool.{Bool, false, not, cond, _&&_}
 use mathlib.Core.Option.{Option, none, some}
-use mathlib.Core.List.{List, [], _∷_, _++_, map}
+use mathlib.Core.List.{List, [], _∷_, _++_}
 use Prim.Native.Nat.{ℕ, _+_, _≤_}
 use lib.Dec.{eqb}
 use lib.ListN.{length}
@@ -25,17 +25,21 @@ use Rattle.monitor.specs.Answers.{runOf}
 abbrev pub staysOpen : Event → List Event → Bool
 staysOpen e after = isEntry e && not (any (λ x. isExit x && eqb (e .number) (x .number)) after)
 
--- the entries of a trace whose calls have not been left since, in their order
-unfoldable pub stillOpen : List Event → List Event
-stillOpen [] = []
-stillOpen (e ∷ w) = cond (staysOpen e w) (e ∷ stillOpen w) (stillOpen w)
+-- the call that an entry at a position opens
+abbrev pub openedBy : ℕ → Event → Call
+openedBy position e = record { number = e .number; unit = e .unit; entry = position; kept = e .values }
 
-abbrev pub openedBy : Event → Call
-openedBy e = record { number = e .number; unit = e .unit; kept = e .values }
+-- the calls of the entries of a trace that have not been left since, in their order; the first event stands at a position
+unfoldable pub openFrom : ℕ → List Event → List Call
+openFrom position [] = []
+openFrom position (e ∷ w) = cond (staysOpen e w) (openedBy position e ∷ openFrom (position + 1) w) (openFrom (position + 1) w)
+
+abbrev pub stillOpen : List Event → List Call
+stillOpen w = openFrom 1 w
 
 -- The lowest of refusals 10 to 15 that an event meets after a trace of taken events, with or without a verdict; 0 for none.
 unfoldable pub refusalAfter : Sheet → Bool → List Event → Event → ℕ
-refusalAfter S judged w e = lowest (refusals (S .common) judged (length w) (map openedBy (stillOpen w)) e)
+refusalAfter S judged w e = lowest (refusals (S .common) judged (length w) (stillOpen w) e)
 
 -- Each event of the trace is taken after those before it.
 abbrev pub Taken : Sheet → List Event → Type 0
@@ -46,30 +50,36 @@ pub record Lowest (S : Sheet) (R : Leading) (w : List Event) (t : Option ℕ) : 
   pub unbroken : t ≡ none → (i : ℕ) → Breaks S R w i → ⊥
   pub broken : (i : ℕ) → t ≡ some i → Breaks S R w i × ((j : ℕ) → Breaks S R w j → i ≤ j)
 
+-- document 02, request 4: "where the call started" that broke a triple: how many events there are up to and with its entry; 0 where none is broken
+abbrev pub Began : Sheet → Leading → List Event → Option ℕ → ℕ → Type 0
+Began S R w none entry = entry ≡ 0
+Began S R w (some i) entry = (b : Breaks S R w i) × (entry ≡ length (b .w₁) + 1)
+
 -- No prefix of the trace is a counterexample.
 abbrev pub Clear : Sheet → Leading → List Event → Type 0
 Clear S R w = (u v : List Event) → w ≡ u ++ v → Counterexample S R u → ⊥
 
 -- The verdict that belongs to a counterexample: "the event's position", "the bad state" that it reaches, if it reaches one, and "the lowest failing triple", if it
--- breaks one.
-pub record Finds (S : Sheet) (R : Leading) (w : List Event) (position : ℕ) (state triple : Option ℕ) : Type 0 where
+-- breaks one, with the position of the entry of the call that broke it.
+pub record Finds (S : Sheet) (R : Leading) (w : List Event) (position : ℕ) (state triple : Option ℕ) (entry : ℕ) : Type 0 where
   pub counterexample : Counterexample S R w
   pub counted : position ≡ length w
   pub to : Configuration
   pub leads : R w to
   pub bad : state ≡ badState (S .common .bad) (to .main)
   pub lowest : Lowest S R w triple
+  pub began : Began S R w triple entry
 
 -- "first event at which a violation is complete, bad state if any, lowest broken triple if any": the events up to it are taken, with no counterexample among the
 -- prefixes before it, and with it they are one.
-pub record Violated (S : Sheet) (R : Leading) (es : List Event) (position : ℕ) (state triple : Option ℕ) : Type 0 where
+pub record Violated (S : Sheet) (R : Leading) (es : List Event) (position : ℕ) (state triple : Option ℕ) (entry : ℕ) : Type 0 where
   pub w : List Event
   pub e : Event
   pub rest : List Event
   pub parts : es ≡ w ++ e ∷ rest
   pub taken : Taken S (w ++ e ∷ [])
   pub before : Clear S R w
-  pub finds : Finds S R (w ++ e ∷ []) position state triple
+  pub finds : Finds S R (w ++ e ∷ []) position state triple entry
 
 -- "the refusal and its place": the events before this one are taken, with no counterexample among their prefixes, and this one is refused.
 pub record Refused (S : Sheet) (R : Leading) (es : List Event) (number place : ℕ) : Type 0 where
@@ -95,7 +105,7 @@ pub record Clean (S : Sheet) (R : Leading) (es : List Event) (events main calls 
 
 -- What a run over some events answers: just what is found of them.
 pub record Published (S : Sheet) (R : Leading) (es : List Event) (r : Ending) : Type 0 where
-  pub whenViolated : (position : ℕ) (state triple : Option ℕ) → r ≡ violated position state triple ↔ Violated S R es position state triple
+  pub whenViolated : (position : ℕ) (state triple : Option ℕ) (entry : ℕ) → r ≡ violated position state triple entry ↔ Violated S R es position state triple entry
   pub whenRefused : (number place : ℕ) → r ≡ refusedAt number place ↔ Refused S R es number place
   pub whenClean : (events main calls : ℕ) → r ≡ clean events main calls ↔ Clean S R es events main calls
   pub read : (number : ℕ) → r ≡ refused number → ⊥

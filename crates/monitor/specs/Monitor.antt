@@ -12,7 +12,7 @@ use Rattle.sheet.specs.Log.{Event}
 use Rattle.step.specs.Lists.{first, keep, numbers, least}
 use Rattle.step.specs.Meets.{meets}
 use Rattle.step.specs.Moves.{Configuration, seen, moved}
-use Rattle.step.specs.Calls.{Call, isEntry, refusals, lowest}
+use Rattle.step.specs.Calls.{Call, isEntry, entryFor, refusals, lowest}
 use Rattle.step.specs.Verdicts.{verdict, isJudged}
 use Rattle.step.specs.Runs.{Offered, offered, Ran, runFrom}
 use Rattle.engine.specs.Machine as Machine
@@ -55,15 +55,15 @@ failing S k e (some a) = least (keep (fails S k e (a .call)) (a .armed))
 abbrev pub ofNumber : ℕ → Armed → Bool
 ofNumber n a = eqb (a .call .number) n
 
--- an entry: "the P values are kept"
+-- an entry: "the P values are kept"; request 4: its position is remembered
 unfoldable pub entered : Sheet → State → Event → State
 entered S σ e =
     let to = moved (S .common) (S .transitions) (σ .configuration) e in
     record {
       configuration = to;
-      calls = σ .calls ++ record { call = record { number = e .number; unit = e .unit; kept = e .values }; armed = armedBy S (σ .configuration) e } ∷ [];
+      calls = σ .calls ++ record { call = record { number = e .number; unit = e .unit; entry = σ .position + 1; kept = e .values }; armed = armedBy S (σ .configuration) e } ∷ [];
       position = σ .position + 1;
-      verdict = verdict (S .common .bad) (σ .position + 1) (to .main) none;
+      verdict = verdict (S .common .bad) (σ .position + 1) (to .main) none 0;
     }
 
 -- an exit: "every triple armed for this call ..; the call's place is then free"
@@ -74,7 +74,7 @@ exited S σ e =
       configuration = to;
       calls = keep (λ a. not (ofNumber (e .number) a)) (σ .calls);
       position = σ .position + 1;
-      verdict = verdict (S .common .bad) (σ .position + 1) (to .main) (failing S (σ .configuration) e (first (ofNumber (e .number)) (σ .calls)));
+      verdict = verdict (S .common .bad) (σ .position + 1) (to .main) (failing S (σ .configuration) e (first (ofNumber (e .number)) (σ .calls))) (entryFor (e .number) (map (λ a. a .call) (σ .calls)));
     }
 
 -- the lowest of refusals 10 to 15, or 0

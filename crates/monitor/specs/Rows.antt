@@ -29,9 +29,9 @@ pub record Row : Type 0 where
 -- "* the log above; * exit values 8, 8: clean 2 state 0 open 0; * exit values 7, 7: violated 2", and so on
 abbrev pub rows : List Row
 rows =
-    record { records = entry 7 8 0 ++ exit 7 8 7; expected = violated 2 none (some 0) }
+    record { records = entry 7 8 0 ++ exit 7 8 7; expected = violated 2 none (some 0) 1 }
     ∷ record { records = entry 7 8 0 ++ exit 7 8 8; expected = clean 2 0 0 }
-    ∷ record { records = entry 7 8 0 ++ exit 7 7 7; expected = violated 2 none (some 0) }
+    ∷ record { records = entry 7 8 0 ++ exit 7 7 7; expected = violated 2 none (some 0) 1 }
     ∷ record { records = []; expected = clean 0 0 0 }
     ∷ record { records = entry 7 8 0; expected = clean 1 1 1 }
     ∷ record { records = entry 7 8 0 ++ (entry 9 3 0 ++ (exit 9 3 0 ++ exit 7 8 8)); expected = clean 4 0 0 }

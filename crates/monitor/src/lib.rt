@@ -69,6 +69,7 @@ impl WatchState {
             calls: [Call {
                 number: 0,
                 unit: 0,
+                entry: 0,
                 kept: [0; WatchState::VALUES],
             }; WatchState::CALLS],
             arms: [Arms {

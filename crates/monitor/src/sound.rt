@@ -10,10 +10,10 @@ ghost use Rattle.sheet.specs.Table.{every};
 ghost use Rattle.sheet.specs.Decode.{sheetOf};
 ghost use Rattle.sheet.specs.Reading.{reading, sheetLayout};
 ghost use Rattle.sheet.specs.Answer.{headerOf};
-ghost use Rattle.step.specs.Lists.{beside};
+ghost use Rattle.step.specs.Lists.{beside, rising};
 ghost use Rattle.step.specs.Calls.{mostCalls, mostValues};
 ghost use Rattle.step.specs.Padding.{clear};
-ghost use Rattle.monitor.specs.Sound.{rising, callSound};
+ghost use Rattle.monitor.specs.Sound.{callSound};
 ghost use Rattle.monitor.specs.Padded.{unpadArmed, isZeroArms, tidyArms, soundState};
 ghost use Rattle.monitor.specs.Walk.{tablesOf, tripleAt};
 use crate::Arms;
@@ -50,7 +50,9 @@ pub(crate) fn sound(s: &[u8], t: Tables, state: WatchState) -> bool
         & step::rows::calls_clear(calls, opened);
     let tidy = step::rows::clear_from(&variables, wide(h.monitors))
         & (calls_tidy & (arms_tidy(arms) & arms_clear(arms, opened)));
-    let row = step::rows::numbers_distinct(calls, opened) & calls_sound(s, t, calls, arms, opened);
+    let entries = step::rows::entries_sound(calls, opened, state.position);
+    let row = step::rows::numbers_distinct(calls, opened)
+        & (entries & calls_sound(s, t, calls, arms, opened));
     let rest = step::outcomes::outcome_fits(h.bad, h.last, state.main, state.position, outcome);
     (opened <= WatchState::CALLS) & (tidy & ((state.main < h.states) & (row & rest)))
 }

@@ -177,7 +177,7 @@ fn print_answer(a: Answer) {
 fn run(s: &[u8], start: usize, end: usize, bench: Bench) -> Bench {
     let answer = monitor::run(part(s, bench.start, bench.end), part(s, start, end));
     match answer {
-        RunAnswer::Violated(v) => print_verdict(v),
+        RunAnswer::Violated(v) => print_found(v),
         RunAnswer::Clean(events, state, opened) => {
             print_decimal(b"clean ", events as u64);
             print_decimal(b" state ", state as u64);
@@ -212,7 +212,7 @@ fn set(s: &[u8], at: usize, bench: Bench) -> Bench
             opened: low(value),
             ..before
         },
-        3 | 4 | 5 => set_call(before, byte(s, at + 1), i, j, value),
+        3 | 4 | 5 | 13 => set_call(before, byte(s, at + 1), i, j, value),
         6 | 7 => set_arms(before, byte(s, at + 1), i, j, value),
         8 => WatchState {
             position: value,
@@ -225,6 +225,7 @@ fn set(s: &[u8], at: usize, bench: Bench) -> Bench
         10 => judge(before, value, Cause::BadState(small(i))),
         11 => judge(before, value, Cause::Triple(small(i))),
         12 => judge(before, value, Cause::Both(small(i), small(j))),
+        14 => set_carried(before, value),
         _ => before,
     };
     Bench { state, ..bench }
@@ -232,8 +233,24 @@ fn set(s: &[u8], at: usize, bench: Bench) -> Bench
 
 fn judge(state: WatchState, position: u32, cause: Cause) -> WatchState {
     WatchState {
-        outcome: Outcome::Judged(Verdict { position, cause }),
+        outcome: Outcome::Judged(Verdict {
+            position,
+            cause,
+            entry: 0,
+        }),
         ..state
+    }
+}
+
+// The position of an entry that the verdict carries, if there is one.
+fn set_carried(state: WatchState, entry: u32) -> WatchState {
+    let outcome = state.outcome;
+    match outcome {
+        Outcome::Open => state,
+        Outcome::Judged(v) => WatchState {
+            outcome: Outcome::Judged(Verdict { entry, ..v }),
+            ..state
+        },
     }
 }
 
@@ -259,6 +276,7 @@ fn changed_call(call: Call, field: usize, j: usize, value: u32) -> Call {
     match field {
         3 => call.number = (value % 65536) as u16,
         4 => call.unit = low(value),
+        13 => call.entry = value,
         _ => {
             if j < 8 {
                 call.kept[j] = value;
@@ -327,6 +345,7 @@ fn print_call(i: u64, call: Call) {
     let kept = call.kept;
     print_at(b" n", i, call.number as u64);
     print_at(b" u", i, call.unit as u64);
+    print_at(b" e", i, call.entry as u64);
     print_kept(i, kept);
 }
 
@@ -370,10 +389,23 @@ fn print_outcome(outcome: Outcome) {
         Outcome::Judged(v) => {
             print(b" ");
             print_verdict(v);
+            print_decimal(b" entry ", v.entry as u64);
         }
     }
 }
 
+// A verdict that a log comes to, as the program prints it.
+fn print_found(v: Verdict) {
+    print_verdict(v);
+    let cause = v.cause;
+    match cause {
+        Cause::BadState(_) => print(b" entry -"),
+        Cause::Triple(_) => print_decimal(b" entry ", v.entry as u64),
+        Cause::Both(_, _) => print_decimal(b" entry ", v.entry as u64),
+    }
+}
+
+// A verdict up to its triple.
 fn print_verdict(v: Verdict) {
     let cause = v.cause;
     print_decimal(b"violated ", v.position as u64);

@@ -8,14 +8,14 @@ use Rattle.engine.specs.Machine.{Armed}
 use Rattle.network.specs.declared.Checker.{Checker}
 use Rattle.network.specs.Network.{State, boundTo}
 
--- "a checker bound to this call": by the call's number, and that of its template
-abbrev pub checker : ℕ → ℕ → Checker
-checker n i = record { number = n; template = i }
+-- "a checker bound to this call": by the call's number, with the position of its entry, and the number of its template
+abbrev pub checker : ℕ → ℕ → ℕ → Checker
+checker n entry i = record { number = n; template = i; entry = entry }
 
 -- "its checkers stand in their calls' order"
 unfoldable pub rowOf : List Armed → List Checker
 rowOf [] = []
-rowOf (a ∷ l) = map (checker (a .call .number)) (a .armed) ++ rowOf l
+rowOf (a ∷ l) = map (checker (a .call .number) (a .call .entry)) (a .armed) ++ rowOf l
 
 -- the calls and, in a row of their own, the checkers
 unfoldable pub ungrouped : Engine.State → State

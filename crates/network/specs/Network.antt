@@ -15,7 +15,7 @@ use Rattle.step.specs.declared.Verdict.{Verdict}
 use Rattle.step.specs.Lists.{first, keep, least}
 use Rattle.step.specs.Meets.{meets}
 use Rattle.step.specs.Moves.{Configuration, seen, enabled, moved}
-use Rattle.step.specs.Calls.{Call, isEntry, refusals, lowest}
+use Rattle.step.specs.Calls.{Call, isEntry, entryFor, refusals, lowest}
 use Rattle.step.specs.Verdicts.{isJudged, verdict}
 use Rattle.step.specs.Runs.{Offered, offered, Ran, runFrom}
 use Rattle.network.specs.declared.Checker.{Checker}
@@ -40,11 +40,12 @@ abbrev pub pairsIn : Option Paired → List Pair
 pairsIn none = []
 pairsIn (some t) = t .pairs
 
--- "A taken entry transition creates, in pair order, for each pair whose condition holds, a checker bound to this call"
-unfoldable pub created : Network → Configuration → Event → List Checker
-created N k e =
+-- "A taken entry transition creates, in pair order, for each pair whose condition holds, a checker bound to this call"; request 4: "Checkers carry it too", the
+-- position of the entry
+unfoldable pub created : Network → Configuration → ℕ → Event → List Checker
+created N k position e =
     let taken = first (λ (t : Paired). enabled (N .common) k e (t .base)) (N .transitions) in
-    map (λ (p : Pair). record { number = e .number; template = p .template }) (keep (λ (p : Pair). meets (N .common) (p .condition) (seen e k)) (pairsIn taken))
+    map (λ (p : Pair). record { number = e .number; template = p .template; entry = position }) (keep (λ (p : Pair). meets (N .common) (p .condition) (seen e k)) (pairsIn taken))
 
 abbrev pub boundTo : ℕ → Checker → Bool
 boundTo n h = eqb (h .number) n
@@ -66,10 +67,10 @@ entered N σ e =
     let to = moved (N .common) (bases N) (σ .configuration) e in
     record {
       configuration = to;
-      calls = σ .calls ++ record { number = e .number; unit = e .unit; kept = e .values } ∷ [];
-      checkers = σ .checkers ++ created N (σ .configuration) e;
+      calls = σ .calls ++ record { number = e .number; unit = e .unit; entry = σ .position + 1; kept = e .values } ∷ [];
+      checkers = σ .checkers ++ created N (σ .configuration) (σ .position + 1) e;
       position = σ .position + 1;
-      verdict = verdict (N .common .bad) (σ .position + 1) (to .main) none;
+      verdict = verdict (N .common .bad) (σ .position + 1) (to .main) none 0;
     }
 
 -- at this call's exit a checker "ends"
@@ -81,7 +82,7 @@ exited N σ e =
       calls = keep (λ c. not (ofNumber (e .number) c)) (σ .calls);
       checkers = keep (λ h. not (boundTo (e .number) h)) (σ .checkers);
       position = σ .position + 1;
-      verdict = verdict (N .common .bad) (σ .position + 1) (to .main) (failing N (σ .configuration) e (σ .checkers) (first (ofNumber (e .number)) (σ .calls)));
+      verdict = verdict (N .common .bad) (σ .position + 1) (to .main) (failing N (σ .configuration) e (σ .checkers) (first (ofNumber (e .number)) (σ .calls))) (entryFor (e .number) (σ .calls));
     }
 
 -- "Order, refusals and verdict are as above": the lowest of refusals 10 to 15, or 0

@@ -22,9 +22,9 @@ use Rattle.network.specs.Padded.{zeroChecker, mostCheckers}
 abbrev pub runningOf : NetworkState → Running
 runningOf w = record { main = w .main; opened = w .opened; position = w .position; outcome = w .outcome }
 
--- the checker of a word: its template is the last byte, the number of its call the two bytes before it
+-- the checker of a word: its template is the last byte, the number of its call the two bytes before it, the position of its entry the four before these
 abbrev pub checkerIn : ℕ → Checker
-checkerIn w = checker (w / 256 % 65536) (w % 256)
+checkerIn w = checker (w / 256 % 65536) (w / 16777216 % 4294967296) (w % 256)
 
 -- the first elements of a list, at most so many, up to one that does not pass a test
 unfoldable pub front : {A : Type 0} → (A → Bool) → ℕ → List A → List A
@@ -50,7 +50,7 @@ callWords w = wordsIn (take (w .opened) (w .calls)) (take (w .living) (w .checke
 
 -- the checkers of calls, by what is armed for each
 abbrev pub checkersFor : Call → Arms → List Checker
-checkersFor c a = map (checker (c .number)) (take (a .count) (a .numbers))
+checkersFor c a = map (checker (c .number) (c .entry)) (take (a .count) (a .numbers))
 
 unfoldable pub checkersIn : List (List ℕ) → List Checker
 checkersIn [] = []

@@ -21,7 +21,7 @@ use Rattle.network.specs.Network.{State, fresh}
 use Rattle.network.specs.Sound.{sound}
 
 abbrev pub zeroChecker : Checker
-zeroChecker = record { number = 0; template = 0 }
+zeroChecker = record { number = 0; template = 0; entry = 0 }
 
 -- "at most four a call", and at most 16 calls
 abbrev pub mostCheckers : ℕ
@@ -57,7 +57,7 @@ view N w =
     }
 
 abbrev pub isZeroChecker : Checker → Bool
-isZeroChecker h = eqb (h .number) 0 && eqb (h .template) 0
+isZeroChecker h = eqb (h .number) 0 && (eqb (h .template) 0 && eqb (h .entry) 0)
 
 -- "unused places and variables are zero"; the lengths are those of the code's types, which a list does not know
 unfoldable pub tidy : Network → NetworkState → Bool

@@ -23,3 +23,7 @@ templateAt s at i = templateForm .value (drop (at + 2 * i) s)
 -- a checker on an open call of its template's unit
 abbrev pub onCallAt : List ℕ → ℕ → ℕ → List Call → Checker → Bool
 onCallAt s at n calls h = ltb (h .template) n && any (λ (c : Call). eqb (c .number) (h .number) && eqb (c .unit) (templateAt s at (h .template) .unit)) calls
+
+-- a checker that carries the position of its call's entry
+abbrev pub carriedIn : List Call → Checker → Bool
+carriedIn calls h = any (λ (c : Call). eqb (c .number) (h .number) && eqb (c .entry) (h .entry)) calls

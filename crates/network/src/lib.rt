@@ -21,10 +21,12 @@ mod entry;
 mod pack;
 mod sound;
 
-// A living checker: the number of the open call that it is bound to, and its template.
+// A living checker: the number of the open call that it is bound to, its template, and the position of
+// the call's entry.
 pub struct Checker {
     pub number: u16,
     pub template: u8,
+    pub entry: u32,
 }
 
 // A state of the network. The first `opened` calls are open, the first `living` checkers live.
@@ -71,12 +73,14 @@ impl NetworkState {
             calls: [Call {
                 number: 0,
                 unit: 0,
+                entry: 0,
                 kept: [0; NetworkState::VALUES],
             }; NetworkState::CALLS],
             living: 0,
             checkers: [Checker {
                 number: 0,
                 template: 0,
+                entry: 0,
             }; NetworkState::CHECKERS],
             position: 0,
             outcome: Outcome::Open,

@@ -3,7 +3,7 @@
 ghost use mathlib.Core.Path.{_≡_};
 ghost use mathlib.Core.Bool.{true, _&&_};
 ghost use mathlib.Core.List.{map};
-ghost use Prim.Native.Nat.{_+_, _≤_};
+ghost use Prim.Native.Nat.{_+_, _≤_, _<_};
 ghost use lib.Dec.{ltb};
 ghost use lib.ListN.{length, take, drop};
 ghost use lib.Seq.{sets};
@@ -15,9 +15,7 @@ ghost use Rattle.network.specs.Padded.{zeroChecker, mostCheckers};
 ghost use Rattle.network.specs.Packed.{runningOf, armsOf, ownOf, callWords, checkerIn, unpacked};
 use crate::Checker;
 use crate::NetworkState;
-use crate::sound::long;
 use crate::sound::wide;
-use crate::sound::word;
 use engine::Running;
 use engine::pack::Arms;
 use step::ARMED;
@@ -66,40 +64,59 @@ pub(crate) fn row(state: NetworkState) -> [u32; 256]
 fn words_of(
     checkers: [Checker; NetworkState::CHECKERS],
     living: usize,
-) -> [u32; NetworkState::CHECKERS]
+) -> [u64; NetworkState::CHECKERS]
     requires { ⌜ living ≤ mostCheckers ⌝ }
     ensures { λ r. ⌜ (take living (map checkerIn r) ≡ take living checkers) × (length r ≡ mostCheckers) ⌝ }
 {
-    let mut out = [0u32; NetworkState::CHECKERS];
+    let mut out = [0u64; NetworkState::CHECKERS];
     let mut i = 0;
     while i < living {
         let c = checkers[i];
-        out[i] = word_of(c.number, c.template);
+        out[i] = word_of(c.number, c.entry, c.template);
         i += 1;
     }
     out
 }
 
 // The word of a checker.
-fn word_of(number: u16, template: u8) -> u32
-    ensures { λ r. ⌜ checkerIn r ≡ checker number template ⌝ }
+fn word_of(number: u16, entry: u32, template: u8) -> u64
+    ensures { λ r. ⌜ checkerIn r ≡ checker number entry template ⌝ }
 {
-    256 * long(number) + word(template)
+    16777216 * high(entry) + (256 * middle(number) + low(template))
+}
+
+fn high(x: u32) -> u64
+    ensures { λ r. ⌜ (r ≡ x) × (r < 4294967296) ⌝ }
+{
+    x as u64
+}
+
+fn middle(x: u16) -> u64
+    ensures { λ r. ⌜ (r ≡ x) × (r < 65536) ⌝ }
+{
+    x as u64
+}
+
+fn low(x: u8) -> u64
+    ensures { λ r. ⌜ (r ≡ x) × (r < 256) ⌝ }
+{
+    x as u64
 }
 
 // The checker of a word.
-fn checker_in(w: u32) -> Checker
+fn checker_in(w: u64) -> Checker
     ensures { λ r. ⌜ r ≡ checkerIn w ⌝ }
 {
     Checker {
         number: (w / 256 % 65536) as u16,
         template: (w % 256) as u8,
+        entry: (w / 16777216 % 4294967296) as u32,
     }
 }
 
 // The templates of the checkers from a place on that are bound to a call, up to the first that is not:
 // at most four.
-fn bound_from(words: &[u32], from: usize, living: usize, number: u16) -> Arms
+fn bound_from(words: &[u64], from: usize, living: usize, number: u16) -> Arms
     requires { ⌜ (from ≤ mostCheckers) × (living ≤ mostCheckers) × (living ≤ length (now words)) ⌝ }
     ensures { λ r. ⌜ r ≡ armsOf (ownOf number (drop from (take living (map checkerIn (now (words .entry)))))) ⌝ }
 {
@@ -143,13 +160,13 @@ pub(crate) fn unpack(
     let opened = wide(run.opened);
     let w = step::rows::eight(condition::front(&variables[..], monitors));
     let mut calls = [step::rows::no_call(); NetworkState::CALLS];
-    let mut words = [0u32; NetworkState::CHECKERS];
+    let mut words = [0u64; NetworkState::CHECKERS];
     let mut living = 0;
     let mut i = 0;
     while i < opened {
         let call = engine::pack::call_at(row, i, programs);
         let arms = engine::pack::arms_at(row, i);
-        living = append(&mut words, living, call.number, arms);
+        living = append(&mut words, living, call.number, call.entry, arms);
         calls[i] = call;
         i += 1;
     }
@@ -169,32 +186,34 @@ pub(crate) fn unpack(
 
 // The word of a checker of a call for each armed template, behind the words of a row.
 fn append(
-    words: &mut [u32; NetworkState::CHECKERS],
+    words: &mut [u64; NetworkState::CHECKERS],
     living: usize,
     number: u16,
+    entry: u32,
     arms: Arms,
 ) -> usize
     requires { ⌜ (living + mostArmed ≤ mostCheckers) × (arms .count ≤ mostArmed) ⌝ }
-    ensures { λ r. ⌜ (map checkerIn (now (words .exit)) ≡ sets (map checkerIn (now (words .entry))) living (map (checker number) (take (arms .count) (arms .numbers)))) × (r ≡ living + length (take (arms .count) (arms .numbers))) ⌝ }
+    ensures { λ r. ⌜ (map checkerIn (now (words .exit)) ≡ sets (map checkerIn (now (words .entry))) living (map (checker number entry) (take (arms .count) (arms .numbers)))) × (r ≡ living + length (take (arms .count) (arms .numbers))) ⌝ }
 {
     let count = wide(arms.count);
     let numbers = arms.numbers;
     let mut i = 0;
     while i < count {
-        words[living + i] = word_of(number, numbers[i]);
+        words[living + i] = word_of(number, entry, numbers[i]);
         i += 1;
     }
     living + count
 }
 
 // The checkers of the first `living` words.
-fn checkers_of(words: &[u32], living: usize) -> [Checker; NetworkState::CHECKERS]
+fn checkers_of(words: &[u64], living: usize) -> [Checker; NetworkState::CHECKERS]
     requires { ⌜ (living ≤ mostCheckers) × (living ≤ length (now words)) ⌝ }
     ensures { λ r. ⌜ r ≡ fit mostCheckers zeroChecker (take living (map checkerIn (now (words .entry)))) ⌝ }
 {
     let mut out = [Checker {
         number: 0,
         template: 0,
+        entry: 0,
     }; NetworkState::CHECKERS];
     let mut i = 0;
     while i < living {

@@ -14,7 +14,7 @@ ghost use Rattle.step.specs.Lists.{keep, placeOf};
 ghost use Rattle.step.specs.Calls.{mostCalls, mostArmed};
 ghost use Rattle.network.specs.Sound.{neverFalls};
 ghost use Rattle.network.specs.Padded.{mostCheckers, isZeroChecker, soundState};
-ghost use Rattle.network.specs.Walk.{tablesOf, onCallAt};
+ghost use Rattle.network.specs.Walk.{tablesOf, onCallAt, carriedIn};
 use crate::Checker;
 use crate::NetworkState;
 use sheet::Header;
@@ -51,10 +51,13 @@ pub(crate) fn sound(s: &[u8], t: Tables, state: NetworkState) -> bool
         & step::rows::calls_clear(calls, opened);
     let tidy = step::rows::clear_from(&variables, wide(h.monitors))
         & (calls_tidy & checkers_clear(checkers, living));
-    let row = step::rows::numbers_distinct(calls, opened) & units_below(calls, opened, h.units);
+    let entries = step::rows::entries_sound(calls, opened, state.position);
+    let row = step::rows::numbers_distinct(calls, opened)
+        & (entries & units_below(calls, opened, h.units));
     let bound = on_calls(s, t.templates, h.last, calls, opened, checkers, living)
-        & (four_a_call(calls, opened, checkers, living)
-            & in_order(calls, opened, checkers, living));
+        & (entries_carried(calls, opened, checkers, living)
+            & (four_a_call(calls, opened, checkers, living)
+                & in_order(calls, opened, checkers, living)));
     let rest = step::outcomes::outcome_fits(h.bad, h.last, state.main, state.position, outcome);
     ((opened <= NetworkState::CALLS) & (living <= NetworkState::CHECKERS))
         & (tidy & ((state.main < h.states) & (row & (bound & rest))))
@@ -74,7 +77,7 @@ fn checkers_clear(checkers: [Checker; NetworkState::CHECKERS], from: usize) -> b
     let mut i = from;
     while i < NetworkState::CHECKERS {
         let c = checkers[i];
-        if (c.number == 0) & (c.template == 0) {} else {
+        if (c.number == 0) & ((c.template == 0) & (c.entry == 0)) {} else {
             return false;
         }
         i += 1;
@@ -140,6 +143,30 @@ fn on_call(
     let t = sheet::template_at(s, long(at) + 2 * word(c.template));
     let open = step::call_open_for(calls, opened, c.number, t.unit);
     (c.template < n) & open
+}
+
+// Whether each of the first `living` checkers carries the position of its call's entry.
+fn entries_carried(
+    calls: [Call; NetworkState::CALLS],
+    opened: usize,
+    checkers: [Checker; NetworkState::CHECKERS],
+    living: usize,
+) -> bool
+    ensures { λ r. ⌜ r ≡ every (carriedIn (take opened calls)) (take living checkers) ⌝ }
+{
+    let mut i = 0;
+    while i < living {
+        if i < NetworkState::CHECKERS {
+            let c = checkers[i];
+            if step::call_entered_at(calls, opened, c.number, c.entry) {} else {
+                return false;
+            }
+        } else {
+            return true;
+        }
+        i += 1;
+    }
+    true
 }
 
 // Whether at most four of the first `living` checkers are bound to each open call.

@@ -179,7 +179,7 @@ fn print_answer(a: Answer) {
 fn run(s: &[u8], start: usize, end: usize, bench: Bench) -> Bench {
     let answer = network::run(part(s, bench.start, bench.end), part(s, start, end));
     match answer {
-        RunAnswer::Violated(v) => print_verdict(v),
+        RunAnswer::Violated(v) => print_found(v),
         RunAnswer::Clean(events, state, opened) => {
             print_decimal(b"clean ", events as u64);
             print_decimal(b" state ", state as u64);
@@ -224,12 +224,12 @@ fn set(s: &[u8], at: usize, bench: Bench) -> Bench
             opened: low(value),
             ..before
         },
-        3 | 4 | 5 => set_call(before, byte(s, at + 1), i, j, value),
+        3 | 4 | 5 | 14 => set_call(before, byte(s, at + 1), i, j, value),
         6 => NetworkState {
             living: low(value),
             ..before
         },
-        7 | 8 => set_checker(before, byte(s, at + 1), i, value),
+        7 | 8 | 15 => set_checker(before, byte(s, at + 1), i, value),
         9 => NetworkState {
             position: value,
             ..before
@@ -241,6 +241,7 @@ fn set(s: &[u8], at: usize, bench: Bench) -> Bench
         11 => judge(before, value, Cause::BadState(small(i))),
         12 => judge(before, value, Cause::Triple(small(i))),
         13 => judge(before, value, Cause::Both(small(i), small(j))),
+        16 => set_carried(before, value),
         _ => before,
     };
     Bench { state, ..bench }
@@ -248,8 +249,24 @@ fn set(s: &[u8], at: usize, bench: Bench) -> Bench
 
 fn judge(state: NetworkState, position: u32, cause: Cause) -> NetworkState {
     NetworkState {
-        outcome: Outcome::Judged(Verdict { position, cause }),
+        outcome: Outcome::Judged(Verdict {
+            position,
+            cause,
+            entry: 0,
+        }),
         ..state
+    }
+}
+
+// The position of an entry that the verdict carries, if there is one.
+fn set_carried(state: NetworkState, entry: u32) -> NetworkState {
+    let outcome = state.outcome;
+    match outcome {
+        Outcome::Open => state,
+        Outcome::Judged(v) => NetworkState {
+            outcome: Outcome::Judged(Verdict { entry, ..v }),
+            ..state
+        },
     }
 }
 
@@ -275,6 +292,7 @@ fn changed_call(call: Call, field: usize, j: usize, value: u32) -> Call {
     match field {
         3 => call.number = (value % 65536) as u16,
         4 => call.unit = low(value),
+        14 => call.entry = value,
         _ => {
             if j < 8 {
                 call.kept[j] = value;
@@ -295,10 +313,10 @@ fn set_checker(state: NetworkState, field: usize, i: usize, value: u32) -> Netwo
 
 fn changed_checker(checker: Checker, field: usize, value: u32) -> Checker {
     let mut checker = checker;
-    if field == 7 {
-        checker.number = (value % 65536) as u16;
-    } else {
-        checker.template = low(value);
+    match field {
+        7 => checker.number = (value % 65536) as u16,
+        8 => checker.template = low(value),
+        _ => checker.entry = value,
     }
     checker
 }
@@ -350,12 +368,14 @@ fn print_checkers(checkers: [Checker; 64]) {
 fn print_checker(i: u64, checker: Checker) {
     print_at(b" c", i, checker.number as u64);
     print_at(b" t", i, checker.template as u64);
+    print_at(b" f", i, checker.entry as u64);
 }
 
 fn print_call(i: u64, call: Call) {
     let kept = call.kept;
     print_at(b" n", i, call.number as u64);
     print_at(b" u", i, call.unit as u64);
+    print_at(b" e", i, call.entry as u64);
     print_kept(i, kept);
 }
 
@@ -383,10 +403,23 @@ fn print_outcome(outcome: Outcome) {
         Outcome::Judged(v) => {
             print(b" ");
             print_verdict(v);
+            print_decimal(b" entry ", v.entry as u64);
         }
     }
 }
 
+// A verdict that a log comes to, as the program prints it.
+fn print_found(v: Verdict) {
+    print_verdict(v);
+    let cause = v.cause;
+    match cause {
+        Cause::BadState(_) => print(b" entry -"),
+        Cause::Triple(_) => print_decimal(b" entry ", v.entry as u64),
+        Cause::Both(_, _) => print_decimal(b" entry ", v.entry as u64),
+    }
+}
+
+// A verdict up to its triple.
 fn print_verdict(v: Verdict) {
     let cause = v.cause;
     print_decimal(b"violated ", v.position as u64);

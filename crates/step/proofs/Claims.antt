@@ -21,7 +21,8 @@ told-run (run.Violated u) (run.Violated v) e =
     let p : u .position ≡ v .position = cc in
     let q : causeState (u .cause) ≡ causeState (v .cause) = cc in
     let r : causeTriple (u .cause) ≡ causeTriple (v .cause) = cc in
-    ap run.Violated (verdict-same u v p q r)
+    let n : u .entry ≡ v .entry = cc in
+    ap run.Violated (verdict-same u v p q r n)
 told-run (run.Clean n q k) (run.Clean m p j) e =
     let x : n ≡ m = cc in
     let y : q ≡ p = cc in

@@ -3,5 +3,6 @@ pub mod Causes
 pub mod Refusing
 pub mod Moving
 pub mod Runs
+pub mod Entries
 pub mod Following
 pub mod Bridge

@@ -3,5 +3,6 @@ pub mod Lists
 pub mod Keeping
 pub mod Filling
 pub mod Turns
+pub mod Rising
 pub mod Rooms
 pub mod Searching

@@ -24,15 +24,15 @@ abbrev pub answerPaper : Answer → Response
 answerPaper Taken = taken
 answerPaper (Refused n) = declined n
 
--- "`violated N state S triple T` (position; `-` for none), `clean N state S open K` (events, main state, open calls), `refused N`, or `refused N at R`"
+-- "`violated N state S triple T entry E`" (position; `-` for none; E is 0 where no triple failed), "`clean N state S open K` (events, main state, open calls), `refused N`, or `refused N at R`"
 pub data Ending : Type 0 where
-  violated : ℕ → Option ℕ → Option ℕ → Ending
+  violated : ℕ → Option ℕ → Option ℕ → ℕ → Ending
   clean : ℕ → ℕ → ℕ → Ending
   refused : ℕ → Ending
   refusedAt : ℕ → ℕ → Ending
 
 abbrev pub runPaper : RunAnswer → Ending
-runPaper (run.Violated v) = violated (v .position) (causeState (v .cause)) (causeTriple (v .cause))
+runPaper (run.Violated v) = violated (v .position) (causeState (v .cause)) (causeTriple (v .cause)) (v .entry)
 runPaper (run.Clean n q k) = clean n q k
 runPaper (run.Refused n) = refused n
 runPaper (run.RefusedAt n i) = refusedAt n i

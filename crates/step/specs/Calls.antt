@@ -1,18 +1,22 @@
 -- Open calls, and which events are refused (document 01, "One event", "What each operation turns away").
 use mathlib.Core.Bool.{Bool, not, cond, _&&_}
+use mathlib.Core.Option.{Option, none, some}
 use mathlib.Core.List.{List, [], _∷_}
 use Prim.Native.Nat.{ℕ}
 use lib.Dec.{leb, ltb, eqb}
 use lib.ListN.{length}
+use Rattle.sheet.specs.Table.{every}
 use Rattle.sheet.specs.Parts.{Common}
 use Rattle.sheet.specs.declared.Record.{Record}
 use Rattle.sheet.specs.Log.{Event}
-use Rattle.step.specs.Lists.{any}
+use Rattle.step.specs.Lists.{first, any, rising}
 
--- "A call is open from entry to exit": its number, its unit, and the values kept at entry
+-- "A call is open from entry to exit": its number, its unit, and the values kept at entry; document 02, request 4: "Each open call shall remember its entry's
+-- position"
 pub record Call : Type 0 where
   pub number : ℕ
   pub unit : ℕ
+  pub entry : ℕ
   pub kept : List ℕ
 
 abbrev pub isEntry : Event → Bool
@@ -31,6 +35,24 @@ openFor e calls = any (λ c. eqb (c .number) (e .number) && eqb (c .unit) (e .un
 -- "At most 16 calls are open."
 abbrev pub mostCalls : ℕ
 mostCalls = 16
+
+-- the position of the entry of the open call of a number; 0 where there is none
+abbrev pub entryIn : Option Call → ℕ
+entryIn none = 0
+entryIn (some c) = c .entry
+
+abbrev pub entryFor : ℕ → List Call → ℕ
+entryFor n calls = entryIn (first (λ c. eqb (c .number) n) calls)
+
+-- What 9 also covers of the positions of the calls' entries, by request 4: "a call's entry position that is 0", "above the state's", "or not rising along the calls"
+abbrev pub noneZero : List ℕ → Bool
+noneZero entries = every (λ n. leb 1 n) entries
+
+abbrev pub noneAbove : ℕ → List ℕ → Bool
+noneAbove position entries = every (λ n. leb n position) entries
+
+abbrev pub entriesSound : ℕ → List ℕ → Bool
+entriesSound position entries = (noneZero entries && noneAbove position entries) && rising entries
 
 -- "program variables P, 0-8": an event has so many values, and a call keeps as many
 abbrev pub mostValues : ℕ

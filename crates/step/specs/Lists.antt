@@ -5,7 +5,8 @@ use mathlib.Core.Bool.{Bool, true, false, not, cond, _&&_}
 use mathlib.Core.Option.{Option, none, some}
 use mathlib.Core.List.{List, [], _∷_}
 use Prim.Native.Nat.{ℕ, suc, min}
-use lib.Dec.{eqb}
+use lib.Dec.{eqb, ltb}
+use Rattle.sheet.specs.Table.{every}
 
 -- to be one of a list's elements
 abbrev pub Among : {A : Type 0} → A → List A → Type 0
@@ -41,6 +42,11 @@ least (n ∷ l) = lesser n (least l)
 unfoldable pub distinct : List ℕ → Bool
 distinct [] = true
 distinct (n ∷ l) = not (any (eqb n) l) && distinct l
+
+-- each below all that follow it
+unfoldable pub rising : List ℕ → Bool
+rising [] = true
+rising (n ∷ l) = every (ltb n) l && rising l
 
 -- two lists side by side
 unfoldable pub beside : {A B C : Type 0} → (A → B → C) → List A → List B → List C

@@ -10,14 +10,14 @@ use Rattle.step.specs.Calls as Calls
 use Rattle.step.specs.Calls.{mostValues}
 
 abbrev pub zeroCall : Call
-zeroCall = record { number = 0; unit = 0; kept = replicate mostValues 0 }
+zeroCall = record { number = 0; unit = 0; entry = 0; kept = replicate mostValues 0 }
 
 abbrev pub padCall : Calls.Call → Call
-padCall c = record { number = c .number; unit = c .unit; kept = fit mostValues 0 (c .kept) }
+padCall c = record { number = c .number; unit = c .unit; entry = c .entry; kept = fit mostValues 0 (c .kept) }
 
 -- a call without its padding
 abbrev pub unpad : ℕ → Call → Calls.Call
-unpad programs c = record { number = c .number; unit = c .unit; kept = take programs (c .kept) }
+unpad programs c = record { number = c .number; unit = c .unit; entry = c .entry; kept = take programs (c .kept) }
 
 -- zeros from a place on
 unfoldable pub clear : ℕ → List ℕ → Bool
@@ -28,4 +28,4 @@ abbrev pub padded : ℕ → ℕ → List ℕ → Bool
 padded size n l = eqb (length l) size && clear n l
 
 abbrev pub isZeroCall : Call → Bool
-isZeroCall c = eqb (c .number) 0 && (eqb (c .unit) 0 && clear 0 (c .kept))
+isZeroCall c = eqb (c .number) 0 && (eqb (c .unit) 0 && (eqb (c .entry) 0 && clear 0 (c .kept)))

@@ -25,10 +25,12 @@ pub enum Cause {
     Both(u8, u8),
 }
 
-// A verdict: the position of the event that completed it, and its cause.
+// A verdict: the position of the event that completed it, its cause, and the position of the entry of
+// the call that broke the triple, 0 without one.
 pub struct Verdict {
     pub position: u32,
     pub cause: Cause,
+    pub entry: u32,
 }
 
 // Whether there is a verdict.
@@ -52,10 +54,11 @@ pub enum RunAnswer {
     RefusedAt(u8, u32),
 }
 
-// An open call: its number, its unit, and the values kept at its entry.
+// An open call: its number, its unit, the position of its entry, and the values kept there.
 pub struct Call {
     pub number: u16,
     pub unit: u8,
+    pub entry: u32,
     pub kept: [u32; VALUES],
 }
 
@@ -87,6 +90,25 @@ pub fn call_open_for(calls: [Call; CALLS], opened: usize, number: u16, unit: u8)
         if i < CALLS {
             let c = calls[i];
             if (c.number == number) & (c.unit == unit) {
+                return true;
+            }
+        } else {
+            return false;
+        }
+        i += 1;
+    }
+    false
+}
+
+// Whether a call of a number that was entered at a position is among the first `opened` of sixteen.
+pub fn call_entered_at(calls: [Call; CALLS], opened: usize, number: u16, entry: u32) -> bool
+    ensures { λ r. ⌜ r ≡ any (λ c. eqb (c .number) number && eqb (c .entry) entry) (take opened calls) ⌝ }
+{
+    let mut i = 0;
+    while i < opened {
+        if i < CALLS {
+            let c = calls[i];
+            if (c.number == number) & (c.entry == entry) {
                 return true;
             }
         } else {

@@ -3,17 +3,17 @@
 ghost use mathlib.Core.Path.{_≡_};
 ghost use mathlib.Core.Bool.{_&&_};
 ghost use lib.Dec.{eqb, ltb};
-ghost use Rattle.step.specs.Verdicts.{ifThere, causeState, causeTriple, verdict, verdictFits, isJudged, outcomeOf, verdictIn};
+ghost use Rattle.step.specs.Verdicts.{ifThere, causeState, causeTriple, verdict, entryFits, verdictFits, isJudged, outcomeOf, verdictIn};
 ghost use Rattle.step.specs.Walk.{numberIn};
 ghost use Rattle.sheet.specs.Reading.{isBad};
 use crate::Cause;
 use crate::Outcome;
 use crate::Verdict;
 
-// The outcome of an event: at a position, for the bad states, the new main state, and the lowest
-// failing triple (256 or more for none).
-pub fn outcome(bad: u16, position: u32, main: u8, lowest: u16) -> Outcome
-    ensures { λ r. ⌜ r ≡ outcomeOf (verdict bad position main (numberIn lowest)) ⌝ }
+// The outcome of an event: at a position, for the bad states, the new main state, the lowest failing
+// triple (256 or more for none), and the position of the entry of its call.
+pub fn outcome(bad: u16, position: u32, main: u8, lowest: u16, entry: u32) -> Outcome
+    ensures { λ r. ⌜ r ≡ outcomeOf (verdict bad position main (numberIn lowest) entry) ⌝ }
 {
     let is_bad = sheet::is_bad(bad, main);
     if lowest < 256 {
@@ -23,12 +23,17 @@ pub fn outcome(bad: u16, position: u32, main: u8, lowest: u16) -> Outcome
         } else {
             Cause::Triple(triple)
         };
-        Outcome::Judged(Verdict { position, cause })
+        Outcome::Judged(Verdict {
+            position,
+            cause,
+            entry,
+        })
     } else {
         if is_bad {
             Outcome::Judged(Verdict {
                 position,
                 cause: Cause::BadState(main),
+                entry: 0,
             })
         } else {
             Outcome::Open
@@ -44,20 +49,22 @@ pub fn outcome_fits(bad: u16, triples: u8, main: u8, position: u32, outcome: Out
     match outcome {
         Outcome::Open => !sheet::is_bad(bad, main),
         Outcome::Judged(v) => {
-            let cause = v.cause;
-            let fits = cause_fits(bad, triples, main, cause);
+            let fits = cause_fits(bad, triples, main, v);
             (v.position == position) & fits
         }
     }
 }
 
-fn cause_fits(bad: u16, triples: u8, main: u8, cause: Cause) -> bool
-    ensures { λ r. ⌜ r ≡ (ifThere (causeState cause) (λ q. eqb q main && isBad bad q) && ifThere (causeTriple cause) (λ t. ltb t triples)) ⌝ }
+// Whether a verdict's cause is, and the position of its entry for it.
+fn cause_fits(bad: u16, triples: u8, main: u8, v: Verdict) -> bool
+    ensures { λ r. ⌜ r ≡ (ifThere (causeState (v .cause)) (λ q. eqb q main && isBad bad q) && (ifThere (causeTriple (v .cause)) (λ t. ltb t triples) && entryFits (causeTriple (v .cause)) (v .position) (v .entry))) ⌝ }
 {
+    let before = (1 <= v.entry) & (v.entry < v.position);
+    let cause = v.cause;
     match cause {
-        Cause::BadState(q) => (q == main) & sheet::is_bad(bad, q),
-        Cause::Triple(t) => t < triples,
-        Cause::Both(q, t) => ((q == main) & sheet::is_bad(bad, q)) & (t < triples),
+        Cause::BadState(q) => ((q == main) & sheet::is_bad(bad, q)) & (v.entry == 0),
+        Cause::Triple(t) => (t < triples) & before,
+        Cause::Both(q, t) => ((q == main) & sheet::is_bad(bad, q)) & ((t < triples) & before),
     }
 }
 

@@ -7,8 +7,8 @@ ghost use Prim.Native.Nat.{_≤_};
 ghost use lib.Dec.{eqb};
 ghost use lib.ListN.{length, take, drop};
 ghost use Rattle.sheet.specs.Table.{every, fit};
-ghost use Rattle.step.specs.Lists.{distinct, placeOf};
-ghost use Rattle.step.specs.Calls.{mostValues};
+ghost use Rattle.step.specs.Lists.{distinct, placeOf, rising};
+ghost use Rattle.step.specs.Calls.{mostValues, noneZero, noneAbove, entriesSound};
 ghost use Rattle.step.specs.Padding.{zeroCall, clear, padded, isZeroCall};
 use crate::CALLS;
 use crate::Call;
@@ -21,6 +21,7 @@ pub fn no_call() -> Call
     Call {
         number: 0,
         unit: 0,
+        entry: 0,
         kept: [0; VALUES],
     }
 }
@@ -82,7 +83,7 @@ fn is_no_call(call: Call) -> bool
     ensures { λ r. ⌜ (r ≡ isZeroCall call) × (length (call .kept) ≡ mostValues) ⌝ }
 {
     let clear = keeps_clear(call, 0);
-    (call.number == 0) & ((call.unit == 0) & clear)
+    (call.number == 0) & ((call.unit == 0) & ((call.entry == 0) & clear))
 }
 
 // Whether the first `opened` calls keep zeros from a value's number on.
@@ -137,6 +138,64 @@ fn numbers_of(calls: [Call; CALLS]) -> [u32; CALLS]
         i += 1;
     }
     out
+}
+
+// Whether the positions of the entries of the first `opened` calls are sound at a position.
+pub fn entries_sound(calls: [Call; CALLS], opened: usize, position: u32) -> bool
+    ensures { λ r. ⌜ r ≡ entriesSound position (map (λ c. c .entry) (take opened calls)) ⌝ }
+{
+    let entries = entries_of(calls);
+    all_within(&entries[..], opened, position) & rising(&entries[..], opened)
+}
+
+// The positions of the calls' entries, without the rest.
+fn entries_of(calls: [Call; CALLS]) -> [u32; CALLS]
+    ensures { λ r. ⌜ r ≡ map (λ c. c .entry) calls ⌝ }
+{
+    let mut out = [0u32; CALLS];
+    let mut i = 0;
+    while i < CALLS {
+        let c = calls[i];
+        out[i] = c.entry;
+        i += 1;
+    }
+    out
+}
+
+// Whether each of the first n numbers is below the next.
+fn rising(numbers: &[u32], n: usize) -> bool
+    ensures { λ r. ⌜ r ≡ rising (take n (now (numbers .entry))) ⌝ }
+{
+    let mut i = 1;
+    while i < n {
+        if i < numbers.len() {
+            if numbers[i - 1] < numbers[i] {} else {
+                return false;
+            }
+        } else {
+            return true;
+        }
+        i += 1;
+    }
+    true
+}
+
+// Whether the first n numbers are from 1 to another.
+fn all_within(numbers: &[u32], n: usize, most: u32) -> bool
+    ensures { λ r. ⌜ r ≡ (noneZero (take n (now (numbers .entry))) && noneAbove most (take n (now (numbers .entry)))) ⌝ }
+{
+    let mut i = 0;
+    while i < n {
+        if i < numbers.len() {
+            if (1 <= numbers[i]) & (numbers[i] <= most) {} else {
+                return false;
+            }
+        } else {
+            return true;
+        }
+        i += 1;
+    }
+    true
 }
 
 // Whether the first n numbers are different.

@@ -2,5 +2,6 @@
 
 pub mod deciding;
 pub mod ends;
+pub mod entries;
 pub mod preconditions;
 pub mod tally;

@@ -90,14 +90,15 @@ impl Arming for Network {
         let Some(place) = last_place(&state.common) else {
             return;
         };
-        let call = state.common.calls[place].number;
+        let call = state.common.calls[place];
         // They stand behind all others.
         let first = usize::from(state.living) - Network::armed(state).len();
         state.checkers[first..].fill(Checker::default());
         for (free, template) in state.checkers[first..].iter_mut().zip(armed) {
             *free = Checker {
-                call,
+                call: call.number,
                 template: *template,
+                entry: call.entry,
             };
         }
         state.living = (first + armed.len()) as u8;

@@ -2,6 +2,7 @@
 
 use crate::counting::deciding::{self, named, of_log, of_steps};
 use crate::counting::ends::{self, Turned};
+use crate::counting::entries;
 use crate::counting::preconditions::{self, Arming};
 use crate::implementation::engine::Engine;
 use crate::implementation::network::{Network, Version};
@@ -99,6 +100,7 @@ pub fn wanted() -> Vec<String> {
     labels.extend(wanted_of_version_3());
     labels.extend(ends::wanted());
     labels.extend(preconditions::wanted());
+    labels.extend(entries::wanted());
     labels
 }
 
@@ -236,11 +238,12 @@ fn count_network_run(random: &mut Random, case: &RunCase, tally: &mut Tally) {
         tally.add_all(named("network", "run", of_log(&network, &own.log)));
         tally.add_all(Turned::of(&network).of_log(&own.log));
         tally.add_all(preconditions::of_log(&network, &own.log));
+        tally.add_all(entries::of_log(&network, &own.log));
     }
 }
 
-/// Where an end of the range decides, or how preconditions read variables: on the sheet and on its
-/// networks, in the run and in its events.
+/// Where an end of the range decides, how preconditions read variables, or where a call was entered: on the
+/// sheet and on its networks, in the run and in its events.
 fn count_on_all(case: &RunCase, tally: &mut Tally) {
     let Ok(sheet) = Sheet::read(&case.sheet) else {
         return;
@@ -260,6 +263,7 @@ fn of_engine<R: Arming>(rules: &R, log: &[u8]) -> Vec<String> {
         turned.of_steps(log),
         preconditions::of_log(rules, log),
         preconditions::of_steps(rules, log),
+        entries::of_log(rules, log),
     ]
     .concat()
 }
@@ -324,14 +328,17 @@ fn change_common(random: &mut Random, change: usize, common: &mut Common) {
             common.verdict = Some(Verdict {
                 position: common.position,
                 cause: Cause::Triple(random.below(4) as u8),
+                entry: random.below(3) as u32,
             })
         }
-        2 => match random.below(6) {
+        2 => match random.below(8) {
             0 => common.main = random.byte(),
             1 => common.open = random.byte(),
             2 => common.variables[random.below(4)] = random.word(),
             3 => common.calls[random.below(16)].unit = random.byte(),
             4 => common.calls[random.below(16)].number = random.below(40) as u16,
+            5 => common.calls[random.below(16)].entry = random.below(40) as u32,
+            6 => common.position = random.below(20) as u32,
             _ => common.calls[random.below(16)].kept[random.below(8)] = random.word(),
         },
         _ => {}
@@ -351,9 +358,10 @@ fn change_sheet_state(random: &mut Random, change: usize, state: &mut SheetState
 fn change_network_state(random: &mut Random, change: usize, state: &mut NetworkState) {
     if change == 3 {
         let checker = &mut state.checkers[random.below(8)];
-        match random.below(3) {
+        match random.below(4) {
             0 => state.living = random.below(66) as u8,
             1 => checker.call = random.below(40) as u16,
+            2 => checker.entry = random.below(20) as u32,
             _ => checker.template = random.below(34) as u8,
         }
     }

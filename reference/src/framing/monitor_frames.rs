@@ -13,7 +13,8 @@ pub enum Arms {
 
 impl Own for Arms {
     type State = SheetState;
-    const COUNT: u8 = 2;
+    const BEFORE: u8 = 2;
+    const BEHIND: u8 = 0;
     const CHECKERS: bool = false;
 
     fn bytes(self) -> [u8; 3] {

@@ -10,11 +10,14 @@ pub enum Checkers {
     Living,
     Call(u8),
     Template(u8),
+    /// The entry position of the checker at a place.
+    Entry(u8),
 }
 
 impl Own for Checkers {
     type State = NetworkState;
-    const COUNT: u8 = 3;
+    const BEFORE: u8 = 3;
+    const BEHIND: u8 = 1;
     const CHECKERS: bool = true;
 
     fn bytes(self) -> [u8; 3] {
@@ -22,6 +25,7 @@ impl Own for Checkers {
             Checkers::Living => [0, 0, 0],
             Checkers::Call(i) => [1, i, 0],
             Checkers::Template(i) => [2, i, 0],
+            Checkers::Entry(i) => [3, i, 0],
         }
     }
 
@@ -30,6 +34,7 @@ impl Own for Checkers {
             0 => Some(Checkers::Living),
             1 => Some(Checkers::Call(i)),
             2 => Some(Checkers::Template(i)),
+            3 => Some(Checkers::Entry(i)),
             _ => None,
         }
     }
@@ -39,6 +44,7 @@ impl Own for Checkers {
             Checkers::Living => state.living = value as u8,
             Checkers::Call(i) => state.checkers[usize::from(i)].call = value as u16,
             Checkers::Template(i) => state.checkers[usize::from(i)].template = value as u8,
+            Checkers::Entry(i) => state.checkers[usize::from(i)].entry = value,
         }
     }
 }
@@ -61,6 +67,7 @@ impl Rules for Network {
         for (i, checker) in state.checkers.iter().enumerate() {
             put(text, &format!("c{i}"), checker.call.into());
             put(text, &format!("t{i}"), checker.template.into());
+            put(text, &format!("f{i}"), checker.entry.into());
         }
     }
 

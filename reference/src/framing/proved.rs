@@ -14,6 +14,7 @@ mod c {
             first: *mut u32,
             second: *mut u32,
             third: *mut u32,
+            fourth: *mut u32,
         ) -> u32;
         pub fn watch_run_network(
             network: *const u8,
@@ -23,6 +24,7 @@ mod c {
             first: *mut u32,
             second: *mut u32,
             third: *mut u32,
+            fourth: *mut u32,
         ) -> u32;
         pub fn watch_translate(
             sheet: *const u8,
@@ -51,25 +53,30 @@ mod c {
 #[derive(Clone, Copy, Debug, PartialEq, Eq)]
 pub struct Answer {
     pub code: u32,
-    pub numbers: [u32; 3],
+    pub numbers: [u32; 4],
 }
 
 /// What stands in a place that is to be written, so that one that is not shows.
 const UNWRITTEN: u32 = 0xA5A5_A5A5;
 
-type Run =
-    unsafe extern "C" fn(*const u8, usize, *const u8, usize, *mut u32, *mut u32, *mut u32) -> u32;
+type Run = unsafe extern "C" fn(
+    *const u8,
+    usize,
+    *const u8,
+    usize,
+    *mut u32,
+    *mut u32,
+    *mut u32,
+    *mut u32,
+) -> u32;
 
 fn answer(run: Run, rules: &[u8], log: &[u8]) -> Answer {
-    let [mut first, mut second, mut third] = [UNWRITTEN; 3];
+    let mut numbers = [UNWRITTEN; 4];
+    let [first, second, third, fourth] = &mut numbers;
     let (r, l) = (rules.as_ptr(), log.as_ptr());
-    let places = (&mut first, &mut second, &mut third);
-    // SAFETY: the slices and the three places are good, and are lent to nobody else.
-    let code = unsafe { run(r, rules.len(), l, log.len(), places.0, places.1, places.2) };
-    Answer {
-        code,
-        numbers: [first, second, third],
-    }
+    // SAFETY: the slices and the four places are good, and are lent to nobody else.
+    let code = unsafe { run(r, rules.len(), l, log.len(), first, second, third, fourth) };
+    Answer { code, numbers }
 }
 
 pub fn run(sheet: &[u8], log: &[u8]) -> Answer {
@@ -112,13 +119,14 @@ pub fn numbered(outcome: Outcome) -> Answer {
             events,
             state,
             open,
-        } => (0, [events, state.into(), open.into()]),
+        } => (0, [events, state.into(), open.into(), 0]),
         Outcome::Violated(verdict) => {
             let (state, triple) = (verdict.cause.state(), verdict.cause.triple());
-            (1, [verdict.position, or_none(state), or_none(triple)])
+            let (state, triple) = (or_none(state), or_none(triple));
+            (1, [verdict.position, state, triple, verdict.entry])
         }
-        Outcome::Refused(refusal) => (2, [refusal.number().into(), 0, 0]),
-        Outcome::RefusedAt(refusal, record) => (3, [refusal.number().into(), record, 0]),
+        Outcome::Refused(refusal) => (2, [refusal.number().into(), 0, 0, 0]),
+        Outcome::RefusedAt(refusal, record) => (3, [refusal.number().into(), record, 0, 0]),
     };
     Answer { code, numbers }
 }

@@ -5,7 +5,7 @@ use crate::framing::condition_frames::take;
 use crate::framing::pages;
 use crate::implementation::engine::{fresh_state, offer, Engine};
 use crate::implementation::machine::MOST_PROGRAM;
-use crate::implementation::run::{run_bytes, Outcome, Record};
+use crate::implementation::run::{found, run_bytes, Record};
 use crate::implementation::state::{Cause, Common, Verdict};
 use std::fmt::{Debug, Write};
 
@@ -19,8 +19,10 @@ pub type Kept = [i32; MOST_PROGRAM as usize];
 /// The fields that only a sheet's or only a network's state has.
 pub trait Own: Copy + Debug + Eq + 'static {
     type State;
-    /// How many codes they take.
-    const COUNT: u8;
+    /// How many codes they take before the position's.
+    const BEFORE: u8;
+    /// How many they take behind that of the calls' entry positions.
+    const BEHIND: u8;
     /// Whether a script may ask for the values at entry of checkers.
     const CHECKERS: bool;
 
@@ -64,14 +66,24 @@ pub enum Field<O> {
     BadState(u8),
     Failed(u8),
     Both(u8, u8),
+    /// The entry position of the call at a place.
+    Entry(u8),
+    /// The entry position that the verdict carries; without a verdict it sets nothing.
+    Carried,
 }
 
 /// A field and the value that it is set to.
 pub type Set<O> = (Field<O>, u32);
 
 impl<O: Own> Field<O> {
+    /// The code of the position, behind the first ones that only sheets or only networks have.
+    const POSITION: u8 = FIRST_OWN + O::BEFORE;
+    /// The code of the calls' entry positions, behind those of the verdict.
+    const ENTRY: u8 = Self::POSITION + 5;
+    /// The code of the verdict's entry position, behind the last that only networks have.
+    const CARRIED: u8 = Self::ENTRY + 1 + O::BEHIND;
+
     fn bytes(self) -> [u8; 3] {
-        let behind = |code: u8| FIRST_OWN + O::COUNT + code;
         match self {
             Field::Main => [0, 0, 0],
             Field::Variable(i) => [1, i, 0],
@@ -81,18 +93,23 @@ impl<O: Own> Field<O> {
             Field::Kept(i, j) => [5, i, j],
             Field::Own(own) => {
                 let [code, i, j] = own.bytes();
-                [FIRST_OWN + code, i, j]
+                match code.checked_sub(O::BEFORE) {
+                    None => [FIRST_OWN + code, i, j],
+                    Some(behind) => [Self::ENTRY + 1 + behind, i, j],
+                }
             }
-            Field::Position => [behind(0), 0, 0],
-            Field::NoVerdict => [behind(1), 0, 0],
-            Field::BadState(state) => [behind(2), state, 0],
-            Field::Failed(triple) => [behind(3), triple, 0],
-            Field::Both(state, triple) => [behind(4), state, triple],
+            Field::Position => [Self::POSITION, 0, 0],
+            Field::NoVerdict => [Self::POSITION + 1, 0, 0],
+            Field::BadState(state) => [Self::POSITION + 2, state, 0],
+            Field::Failed(triple) => [Self::POSITION + 3, triple, 0],
+            Field::Both(state, triple) => [Self::POSITION + 4, state, triple],
+            Field::Entry(i) => [Self::ENTRY, i, 0],
+            Field::Carried => [Self::CARRIED, 0, 0],
         }
     }
 
     fn from_bytes(code: u8, i: u8, j: u8) -> Option<Field<O>> {
-        let Some(behind) = code.checked_sub(FIRST_OWN + O::COUNT) else {
+        let Some(behind) = code.checked_sub(Self::POSITION) else {
             return Field::front_from_bytes(code, i, j);
         };
         Some(match behind {
@@ -101,11 +118,13 @@ impl<O: Own> Field<O> {
             2 => Field::BadState(i),
             3 => Field::Failed(i),
             4 => Field::Both(i, j),
-            _ => return None,
+            5 => Field::Entry(i),
+            _ if code == Self::CARRIED => Field::Carried,
+            _ => Field::Own(O::from_bytes(O::BEFORE + behind - 6, i, j)?),
         })
     }
 
-    /// The fields up to the last that only sheets or only networks have.
+    /// The fields before the position.
     fn front_from_bytes(code: u8, i: u8, j: u8) -> Option<Field<O>> {
         Some(match code {
             0 => Field::Main,
@@ -137,12 +156,24 @@ impl<O: Own> Field<O> {
             Field::Both(state, triple) => {
                 common.verdict = verdict(value, Cause::Both { state, triple });
             }
+            Field::Entry(i) => common.calls[place(i)].entry = value,
+            Field::Carried => {
+                if let Some(verdict) = &mut common.verdict {
+                    verdict.entry = value;
+                }
+            }
         }
     }
 }
 
+/// At first it carries no entry position.
 fn verdict(position: u32, cause: Cause) -> Option<Verdict> {
-    Some(Verdict { position, cause })
+    let entry = 0;
+    Some(Verdict {
+        position,
+        cause,
+        entry,
+    })
 }
 
 // ---- Frames -----------------------------------------------------------------------------------
@@ -278,7 +309,8 @@ impl<R: Rules> Bench<R> {
 
 // ---- Writing states ---------------------------------------------------------------------------
 
-/// A word for each field that is not zero, then the verdict if there is one.
+/// A word for each field that is not zero, then the verdict if there is one, with its entry position
+/// even where that is zero.
 pub fn state_text<R: Rules>(state: &R::State) -> String {
     let mut text = String::new();
     let common = R::common(state);
@@ -290,14 +322,15 @@ pub fn state_text<R: Rules>(state: &R::State) -> String {
     for (i, call) in common.calls.iter().enumerate() {
         put(&mut text, &format!("n{i}"), call.number.into());
         put(&mut text, &format!("u{i}"), call.unit.into());
+        put(&mut text, &format!("e{i}"), call.entry.into());
         put_kept(&mut text, i, &call.kept);
         R::put_at_call(&mut text, state, i);
     }
     R::put_behind_calls(&mut text, state);
     put(&mut text, "p", common.position.into());
     if let Some(verdict) = common.verdict {
-        text.push(' ');
-        text.push_str(&Outcome::Violated(verdict).to_string());
+        // Writing to a string does not fail.
+        let _ = write!(text, " {} entry {}", found(&verdict), verdict.entry);
     }
     text
 }

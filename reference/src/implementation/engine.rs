@@ -94,12 +94,20 @@ fn admit_exit(common: &Common, unit: u8, place: Option<usize>) -> Result<Taken, 
     }
 }
 
+/// What an exit breaks: the lowest failing triple or template, and the entry position of its call.
+#[derive(Clone, Copy)]
+struct Failing {
+    triple: u8,
+    entry: u32,
+}
+
 impl Common {
-    /// Appends the call and gives its place.
+    /// Appends the call, entered at the present position, and gives its place.
     fn enter(&mut self, event: &Event) -> usize {
         let mut call = Call {
             number: event.call,
             unit: event.unit,
+            entry: self.position,
             ..Call::default()
         };
         for (kept, value) in call.kept.iter_mut().zip(event.values) {
@@ -130,10 +138,14 @@ impl Common {
     }
 
     /// A verdict where the new state is bad or a postcondition fails.
-    fn judge(&mut self, header: &Header, failing: Option<u8>) {
+    fn judge(&mut self, header: &Header, failing: Option<Failing>) {
         let bad = header.is_bad(self.main).then_some(self.main);
-        let position = self.position;
-        self.verdict = Cause::new(bad, failing).map(|cause| Verdict { position, cause });
+        let cause = Cause::new(bad, failing.map(|failing| failing.triple));
+        self.verdict = cause.map(|cause| Verdict {
+            position: self.position,
+            cause,
+            entry: failing.map_or(0, |failing| failing.entry),
+        });
     }
 }
 
@@ -249,7 +261,7 @@ impl Sheet {
     }
 
     /// Closes the call and gives the lowest armed triple whose postcondition fails.
-    fn disarm(&self, next: &mut SheetState, place: usize, event: &Event) -> Option<u8> {
+    fn disarm(&self, next: &mut SheetState, place: usize, event: &Event) -> Option<Failing> {
         let call = next.common.leave(place);
         let armed = close_up(&mut next.armed, place);
         let fails = |number: &&u8| {
@@ -257,7 +269,11 @@ impl Sheet {
             let holds = |post| postcondition_holds(post, event, &call, &self.machine);
             triple.is_some_and(|t| !holds(t.postcondition))
         };
-        armed.numbers().iter().filter(fails).min().copied()
+        let lowest = armed.numbers().iter().filter(fails).min();
+        lowest.map(|triple| Failing {
+            triple: *triple,
+            entry: call.entry,
+        })
     }
 }
 
@@ -308,7 +324,11 @@ impl Engine for Network {
         });
         for pair in creating.iter().flat_map(|c| &c.pairs) {
             if holds_before(pair.condition, &state.common, event, &self.machine) {
-                next.create(event.call, pair.template);
+                next.create(Checker {
+                    call: event.call,
+                    template: pair.template,
+                    entry: next.common.position,
+                });
             }
         }
         let transition = creating.map(|c| &c.transition);
@@ -324,7 +344,12 @@ impl Engine for Network {
 
 impl Network {
     /// Closes the call, ends its checkers and gives the lowest template that fails.
-    fn end_checkers(&self, next: &mut NetworkState, place: usize, event: &Event) -> Option<u8> {
+    fn end_checkers(
+        &self,
+        next: &mut NetworkState,
+        place: usize,
+        event: &Event,
+    ) -> Option<Failing> {
         let call = next.common.leave(place);
         let (ending, staying): (Vec<Checker>, Vec<Checker>) = next
             .living_checkers()
@@ -336,15 +361,19 @@ impl Network {
             let holds = |post| postcondition_holds(post, event, &call, &self.machine);
             template.is_some_and(|t| !holds(t.postcondition))
         };
-        ending.iter().filter(fails).map(|c| c.template).min()
+        let lowest = ending.iter().filter(fails).min_by_key(|c| c.template);
+        lowest.map(|checker| Failing {
+            triple: checker.template,
+            entry: checker.entry,
+        })
     }
 }
 
 impl NetworkState {
     /// The call is the last one opened, so the checkers stay in their calls' order.
-    fn create(&mut self, call: u16, template: u8) {
+    fn create(&mut self, checker: Checker) {
         if let Some(free) = self.checkers.get_mut(usize::from(self.living)) {
-            *free = Checker { call, template };
+            *free = checker;
             self.living += 1;
         }
     }
@@ -353,7 +382,7 @@ impl NetworkState {
         self.checkers = [Checker::default(); MOST_CHECKERS];
         self.living = 0;
         for checker in checkers {
-            self.create(checker.call, checker.template);
+            self.create(*checker);
         }
     }
 }

@@ -27,13 +27,9 @@ impl fmt::Display for Outcome {
     fn fmt(&self, f: &mut fmt::Formatter<'_>) -> fmt::Result {
         match self {
             Outcome::Violated(verdict) => {
-                let state = or_dash(verdict.cause.state());
-                let triple = or_dash(verdict.cause.triple());
-                write!(
-                    f,
-                    "violated {} state {state} triple {triple}",
-                    verdict.position
-                )
+                let triple = verdict.cause.triple();
+                let entry = or_dash(triple.map(|_| verdict.entry));
+                write!(f, "{} entry {entry}", found(verdict))
             }
             Outcome::Clean {
                 events,
@@ -46,7 +42,17 @@ impl fmt::Display for Outcome {
     }
 }
 
-fn or_dash(number: Option<u8>) -> String {
+/// A verdict's line up to its entry position.
+pub fn found(verdict: &Verdict) -> String {
+    let state = or_dash(verdict.cause.state());
+    let triple = or_dash(verdict.cause.triple());
+    format!(
+        "violated {} state {state} triple {triple}",
+        verdict.position
+    )
+}
+
+fn or_dash(number: Option<impl fmt::Display>) -> String {
     number.map_or_else(|| "-".into(), |n| n.to_string())
 }
 

@@ -51,12 +51,16 @@ impl Cause {
 pub struct Verdict {
     pub position: u32,
     pub cause: Cause,
+    /// The entry position of the call that broke the triple; 0 where no triple failed.
+    pub entry: u32,
 }
 
 #[derive(Clone, Copy, Debug, Default, PartialEq, Eq)]
 pub struct Call {
     pub number: u16,
     pub unit: u8,
+    /// The position of its entry: the state's after taking it.
+    pub entry: u32,
     pub kept: [i32; MOST_PROGRAM as usize],
 }
 
@@ -89,6 +93,8 @@ pub struct SheetState {
 pub struct Checker {
     pub call: u16,
     pub template: u8,
+    /// Its call's entry position.
+    pub entry: u32,
 }
 
 #[derive(Clone, Debug, PartialEq, Eq)]
@@ -190,6 +196,26 @@ impl Common {
             && all_zero(back(&self.calls, self.open))
             && calls.iter().all(call_is_sound)
             && calls.iter().enumerate().all(differs)
+            && self.entries_are_from_1()
+            && self.entries_are_not_above()
+            && self.entries_rise()
+    }
+
+    /// No open call's entry position is 0.
+    fn entries_are_from_1(&self) -> bool {
+        self.open_calls().iter().all(|call| call.entry != 0)
+    }
+
+    /// No open call's entry position is above the state's position.
+    fn entries_are_not_above(&self) -> bool {
+        let calls = self.open_calls();
+        calls.iter().all(|call| call.entry <= self.position)
+    }
+
+    /// The entry positions rise along the calls.
+    fn entries_rise(&self) -> bool {
+        let calls = self.open_calls();
+        calls.windows(2).all(|two| two[0].entry < two[1].entry)
     }
 
     fn verdict_is_sound(&self, header: &Header, causes: usize) -> bool {
@@ -198,11 +224,22 @@ impl Common {
         };
         let state_fits = |state: u8| state == self.main && header.is_bad(state);
         verdict.position == self.position
+            && verdict.entry_is_sound()
             && verdict.cause.state().is_none_or(state_fits)
             && verdict
                 .cause
                 .triple()
                 .is_none_or(|t| usize::from(t) < causes)
+    }
+}
+
+impl Verdict {
+    /// With a triple its entry position is from 1 to below its own position, without one 0.
+    fn entry_is_sound(&self) -> bool {
+        match self.cause.triple() {
+            Some(_) => (1..self.position).contains(&self.entry),
+            None => self.entry == 0,
+        }
     }
 }
 
@@ -243,6 +280,7 @@ impl NetworkState {
             && usize::from(self.living) <= MOST_CHECKERS
             && all_zero(back(&self.checkers, self.living))
             && self.checkers_are_sound(network)
+            && self.checkers_entries_are_their_calls()
     }
 
     fn checkers_are_sound(&self, network: &Network) -> bool {
@@ -254,6 +292,15 @@ impl NetworkState {
         let at_most_four =
             |place: &usize| places.iter().filter(|other| *other == place).count() <= MOST_ARMED;
         places.windows(2).all(|two| two[0] <= two[1]) && places.iter().all(at_most_four)
+    }
+
+    /// No living checker's entry position is another than that of its call, if that is open.
+    fn checkers_entries_are_their_calls(&self) -> bool {
+        let is_its_call_s = |checker: &Checker| {
+            let place = self.common.place_of(checker.call);
+            place.is_none_or(|place| self.common.calls[place].entry == checker.entry)
+        };
+        self.living_checkers().iter().all(is_its_call_s)
     }
 
     /// The place of a checker's call, if that is open and of the template's unit.

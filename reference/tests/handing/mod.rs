@@ -45,8 +45,12 @@ pub fn short() -> Vec<Input> {
         judged("none", Vec::new(), "refused 1"),
         judged("one byte", vec![0], "refused 1"),
         judged("sheet alone", SHEET_A.to_vec(), "refused 16"),
-        judged("sample", sample, "violated 2 state - triple 0"),
-        judged("700", filled(700, MISSED), "violated 54 state - triple 0"),
+        judged("sample", sample, "violated 2 state - triple 0 entry 1"),
+        judged(
+            "700",
+            filled(700, MISSED),
+            "violated 54 state - triple 0 entry 53",
+        ),
         judged("2,000", filled(2_000, LOADED), "clean 162 state 0 open 0"),
     ]
 }
@@ -57,7 +61,7 @@ pub fn short() -> Vec<Input> {
 pub fn long() -> Vec<Input> {
     let (clean, broken) = (
         "clean 5457 state 0 open 1",
-        "violated 5457 state - triple 0",
+        "violated 5457 state - triple 0 entry 5456",
     );
     // Bytes behind the log's end.
     let followed = |length: usize| {

@@ -22,8 +22,8 @@ pub fn assert_written_answers<O: Own>(pages: &[Page<O>]) {
 }
 
 /// The most pages that an input has here.
-const FEW: usize = 12;
-const LONGEST_OUTPUT: usize = 2_000_000;
+const FEW: usize = 18;
+const LONGEST_OUTPUT: usize = 3_500_000;
 
 /// The files of the program are these pages and what carrying them out gives, and not too long.
 pub fn assert_files_hold<R: Rules>(name: &str, pages: &[Page<R::Own>]) {
@@ -105,13 +105,13 @@ fn causes<O>(pages: &[Page<O>], of: impl Fn(&Row<O>) -> bool) -> [usize; 3] {
     };
     let found = [
         count(pages, |row, line| {
-            complete(row, line) && line.ends_with("triple -")
+            complete(row, line) && line.contains("triple -")
         }),
         count(pages, |row, line| {
             complete(row, line) && line.contains("state -")
         }),
         count(pages, |row, line| {
-            complete(row, line) && !line.ends_with("triple -") && !line.contains("state -")
+            complete(row, line) && !line.contains("triple -") && !line.contains("state -")
         }),
     ];
     println!("verdicts by state, triple, both: {found:?}");
@@ -212,12 +212,13 @@ pub fn assert_refused_events_change_nothing<R: Rules + Clone>(pages: &[Page<R::O
 
 // ---- Frames -----------------------------------------------------------------------------------
 
-/// Lines are the same only where states are: each field that is set alone gives another line.
+/// Lines are the same only where states are: each field that is set alone gives another line, and so does
+/// what a verdict carries.
 pub fn assert_fields_show<R: Rules>(own: &[R::Own]) {
     let mut fields = vec![Field::Main, Field::Open, Field::Position];
     fields.extend((0..4).map(Field::Variable));
     for i in 0..16 {
-        fields.extend([Field::Number(i), Field::Unit(i)]);
+        fields.extend([Field::Number(i), Field::Unit(i), Field::Entry(i)]);
         fields.extend((0..8).map(|j| Field::Kept(i, j)));
     }
     fields.extend(own.iter().map(|own| Field::Own(*own)));
@@ -232,12 +233,21 @@ pub fn assert_fields_show<R: Rules>(own: &[R::Own]) {
         keep: false,
     };
     let mut lines = HashSet::new();
-    for field in &fields {
+    let mut line = |fields: &[Field<R::Own>]| {
         let mut bench = Bench::<R>::default();
-        bench.carry_out(&Frame::Set(*field, 1));
-        lines.insert(bench.carry_out(&offered));
+        for field in fields {
+            bench.carry_out(&Frame::Set(*field, 1));
+        }
+        lines.insert(bench.carry_out(&offered))
+    };
+    for field in &fields {
+        assert!(line(&[*field]), "{field:?}");
     }
-    assert_eq!(lines.len(), fields.len());
+    for verdict in [Field::BadState(0), Field::Failed(0), Field::Both(0, 0)] {
+        assert!(line(&[verdict, Field::Carried]), "{verdict:?}");
+    }
+    // Without a verdict there is nothing to carry.
+    assert!(!line(&[Field::Main, Field::Carried]));
     assert!(!lines.contains(&Some("refused 1".into())));
 }
 

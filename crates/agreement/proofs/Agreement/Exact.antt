@@ -4,7 +4,7 @@ use mathlib.Core.Logic.{_⊎_, inl, inr}
 use mathlib.Core.Bool.{Bool, true, false, cond, _&&_}
 use mathlib.Core.Option.{Option, none, some}
 use mathlib.Core.List.{List, [], _∷_, _++_, map}
-use Prim.Native.Nat.{ℕ, _≤_}
+use Prim.Native.Nat.{ℕ, _≤_, _+_}
 use native.Mathlib.Omega.{arith}
 use borrow.Author.Tests.{eqb-true, eq-eqb, ne-eqb, ltb-true}
 use lib.Dec.{eqb, ltb}
@@ -14,12 +14,11 @@ use Rattle.sheet.specs.Table.{every}
 use Rattle.sheet.specs.Log.{Event}
 use Rattle.sheet.proofs.Tables.{and-parts}
 use Rattle.sheet.proofs.Tests.{and-iff, not-iff}
-use Rattle.step.specs.Lists.{Among, first, keep, any, distinct}
+use Rattle.step.specs.Lists.{Among, first, keep, any, distinct, rising}
 use Rattle.step.proofs.OnLists.Lists.{any-map, none-some, kept-passes, passes-kept}
 use Rattle.step.proofs.OnLists.Keeping.{every-among, keep-map, keep-both}
 use Rattle.monitor.specs.Monitor as Monitor
 use Rattle.monitor.specs.Monitor.{Armed, ofNumber, initial}
-use Rattle.monitor.specs.Sound.{rising}
 use Rattle.monitor.specs.Published as Published
 use Rattle.monitor.proofs.Demand2.Traces.{Leads, opening, Opened}
 use Rattle.monitor.proofs.Demand2.Calls.{held-opened, opened-held}
@@ -109,19 +108,19 @@ module _ (n i : ℕ) (l : List Armed) (d : distinct (map (λ (a : Armed). a .cal
     where
       go : (o : Option Armed) → first (ofNumber n) l ≡ o → length (keep (λ (h : Checker). eqb (h .template) i) (keep (boundTo n) (rowOf l))) ≡ manyIn i o
       go none e = rw (bound-none n l (none-any n l e))
-      go (some a) e = rw (bound-first n l d a e) (ap length (keep-map (λ (h : Checker). eqb (h .template) i) (checker n) (a .armed)) ∙ length-map (keep (λ j. eqb j i) (a .armed)) (checker n))
+      go (some a) e = rw (bound-first n l d a e) (ap length (keep-map (λ (h : Checker). eqb (h .template) i) (checker n (a .call .entry)) (a .armed)) ∙ length-map (keep (λ j. eqb j i) (a .armed)) (checker n (a .call .entry)))
 
 -- A living checker is of a call that is open, and of a triple armed for it.
-row-among : (l : List Armed) (h : Living) → Among h (armedRow l) → (a : Armed) × Among a l × (h .number ≡ a .call .number) × Among (h .triple) (a .armed) × (h .entry ≡ a .call .kept)
+row-among : (l : List Armed) (h : Living) → Among h (armedRow l) → (a : Armed) × Among a l × (h .number ≡ a .call .number) × Among (h .triple) (a .armed) × (h .values ≡ a .call .kept) × (h .entry ≡ a .call .entry)
 unfolding armedRow
 row-among [] h m = absurd m
-row-among (a ∷ l) h m = either (row-among l h) (among-append (map (λ i. record { number = a .call .number; triple = i; entry = a .call .kept }) (a .armed)) (armedRow l) h m)
+row-among (a ∷ l) h m = either (row-among l h) (among-append (map (λ i. record { number = a .call .number; triple = i; entry = a .call .entry; values = a .call .kept }) (a .armed)) (armedRow l) h m)
   where
-    either : (Among h (armedRow l) → (b : Armed) × Among b l × (h .number ≡ b .call .number) × Among (h .triple) (b .armed) × (h .entry ≡ b .call .kept))
-        → Among h (map (λ i. record { number = a .call .number; triple = i; entry = a .call .kept }) (a .armed)) ⊎ Among h (armedRow l)
-        → (b : Armed) × Among b (a ∷ l) × (h .number ≡ b .call .number) × Among (h .triple) (b .armed) × (h .entry ≡ b .call .kept)
-    either r (inl m) = let (i, j, e) = among-map (λ i. record { number = a .call .number; triple = i; entry = a .call .kept }) (a .armed) h m in (a, inl refl, ap (λ (x : Living). x .number) e, subst (λ (k : ℕ). Among k (a .armed)) (sym (ap (λ (x : Living). x .triple) e)) j, ap (λ (x : Living). x .entry) e)
-    either r (inr m) = let (b, j, e, f, g) = r m in (b, inr j, e, f, g)
+    either : (Among h (armedRow l) → (b : Armed) × Among b l × (h .number ≡ b .call .number) × Among (h .triple) (b .armed) × (h .values ≡ b .call .kept) × (h .entry ≡ b .call .entry))
+        → Among h (map (λ i. record { number = a .call .number; triple = i; entry = a .call .entry; values = a .call .kept }) (a .armed)) ⊎ Among h (armedRow l)
+        → (b : Armed) × Among b (a ∷ l) × (h .number ≡ b .call .number) × Among (h .triple) (b .armed) × (h .values ≡ b .call .kept) × (h .entry ≡ b .call .entry)
+    either r (inl m) = let (i, j, e) = among-map (λ i. record { number = a .call .number; triple = i; entry = a .call .entry; values = a .call .kept }) (a .armed) h m in (a, inl refl, ap (λ (x : Living). x .number) e, subst (λ (k : ℕ). Among k (a .armed)) (sym (ap (λ (x : Living). x .triple) e)) j, ap (λ (x : Living). x .values) e, ap (λ (x : Living). x .entry) e)
+    either r (inr m) = let (b, j, e, f, g, n) = r m in (b, inr j, e, f, g, n)
 
 first-among : (l : List Armed) → distinct (map (λ (a : Armed). a .call .number) l) ≡ true → (a : Armed) → Among a l → first (ofNumber (a .call .number)) l ≡ some a
 unfolding first distinct
@@ -137,8 +136,8 @@ module _ (S : Sheet) {w : List Event} {σ : Monitor.State} (t : Leads S w σ) (n
   due-held : Due S w n i → (a : Armed) × (first (ofNumber n) (σ .calls) ≡ some a) × (rising (a .armed) ≡ true) × Among i (a .armed)
   due-held d =
       let k = Published.reached S (d .w₁) in
-      let a = opening S k (d .entry) in
-      let o : Opened S n (initial S) w a = record { w₁ = d .w₁; entry = d .entry; w₂ = d .w₂; parts = d .parts; kind = d .isEntry; number = d .number; apart = d .apart; call = refl } in
+      let a = opening S k (length (d .w₁) + 1) (d .entry) in
+      let o : Opened S n (initial S) 1 w a = record { w₁ = d .w₁; entry = d .entry; w₂ = d .w₂; parts = d .parts; kind = d .isEntry; number = d .number; apart = d .apart; call = refl } in
       (a, opened-held S t n a o, armed-rising S k (d .entry), arms-armed S k (d .entry) i (record { there = d .there; inState = d .inState; ofUnit = d .ofUnit; precondition = d .precondition }))
 
   held-due : (a : Armed) → first (ofNumber n) (σ .calls) ≡ some a → Among i (a .armed) → Due S w n i
@@ -171,14 +170,14 @@ module _ (S : Sheet) {w : List Event} {σ : Monitor.State} (t : Leads S w σ) (n
         let (a, h, r, m) = due-held u in
         many-held n i (σ .calls) d ∙ ap (manyIn i) h ∙ among-one i (a .armed) r m
 
-    -- each living checker is due, with the values at its entry
-    values-held : (h : Living) → Among h (armedRow (σ .calls)) → h .number ≡ n → h .triple ≡ i → (u : Due S w n i) × (h .entry ≡ u .entry .values)
+    -- each living checker is due, with the values and the position of its entry
+    values-held : (h : Living) → Among h (armedRow (σ .calls)) → h .number ≡ n → h .triple ≡ i → (u : Due S w n i) × (h .values ≡ u .entry .values) × (h .entry ≡ length (u .w₁) + 1)
     unfolding held-due
     values-held h m en ei =
-        let (a, at, en₂, j, v) = row-among (σ .calls) h m in
+        let (a, at, en₂, j, v, p) = row-among (σ .calls) h m in
         let f : first (ofNumber n) (σ .calls) ≡ some a = subst (λ (m : ℕ). first (ofNumber m) (σ .calls) ≡ some a) (sym en₂ ∙ en) (first-among (σ .calls) d a at) in
         let o = held-opened S t n a f in
-        (held-due a f (subst (λ (k : ℕ). Among k (a .armed)) ei j), v ∙ ap (λ (b : Armed). b .call .kept) (o .call))
+        (held-due a f (subst (λ (k : ℕ). Among k (a .armed)) ei j), v ∙ ap (λ (b : Armed). b .call .kept) (o .call), p ∙ ap (λ (b : Armed). b .call .entry) (o .call))
 
 -- So they are exactly those due.
 pub exactly-held : (S : Sheet) {w : List Event} {σ : Monitor.State} → Leads S w σ → distinct (map (λ (a : Armed). a .call .number) (σ .calls)) ≡ true → length (armedRow (σ .calls)) ≤ 64 → Exactly S w (armedRow (σ .calls))

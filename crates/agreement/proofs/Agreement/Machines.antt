@@ -36,7 +36,7 @@ module _ {S : Sheet} {N : Network} (r : Realises S N) where
   arms-same k e y main unit =
       let template : Checker → ℕ = λ h. h .template in
       let pairs = keep (λ (p : Pair). meets (N .common) (p .condition) (seen e k)) (pairsIn (first (λ (t : Paired). enabled (N .common) k e (t .base)) (N .transitions))) in
-      sym (map-map template (λ (p : Pair). checker (e .number) (p .template)) pairs) ∙ ap (map template) (r .creates k e y main unit) ∙ map-map template (checker (e .number)) (armedBy S k e) ∙ map-id (armedBy S k e)
+      sym (map-map template (λ (p : Pair). checker (e .number) 0 (p .template)) pairs) ∙ ap (map template) (r .creates k 0 e y main unit) ∙ map-map template (checker (e .number) 0) (armedBy S k e) ∙ map-id (armedBy S k e)
 
   alike : Alike (ofNetwork N) (ofSheet S)
   unfolding ofNetwork ofSheet

@@ -3,7 +3,7 @@ use mathlib.Core.Path.{_≡_, refl, sym, ap, subst, _∙_}
 use mathlib.Core.Bool.{Bool, true, false, cond}
 use mathlib.Core.Option.{Option, none, some}
 use mathlib.Core.List.{List, [], _∷_, _++_, map, map-map, append-nil}
-use Prim.Native.Nat.{ℕ, zero, suc, _≤_}
+use Prim.Native.Nat.{ℕ, zero, suc, _≤_, _+_}
 use lib.ListN.{length}
 use Rattle.sheet.specs.Parts.{Sheet}
 use Rattle.sheet.specs.Log.{Event}
@@ -18,7 +18,7 @@ use Rattle.step.proofs.OnEvents.Runs.{offered-answer}
 use Rattle.monitor.specs.Monitor as Monitor
 use Rattle.monitor.specs.Monitor.{Armed, State, initial, refusal, offer, armedBy}
 use Rattle.monitor.specs.Published.{inOrder}
-use Rattle.monitor.specs.Demand.{staysOpen, stillOpen, openedBy, refusalAfter, Finds}
+use Rattle.monitor.specs.Demand.{staysOpen, refusalAfter, Finds}
 use Rattle.monitor.proofs.Demand2.Traces.{Leads, begun, more, stepped, opening}
 use Rattle.monitor.proofs.Demand2.Calls.{holds}
 use Rattle.monitor.proofs.Demand2.StillOpen.{openings, calls-are, calls-open, refusal-after}
@@ -30,17 +30,17 @@ use Rattle.agreement.specs.Meant.{Answers, nothing, takes, refuses, ends
 use Rattle.agreement.proofs.Agreement.Exact.{exactly-held}
 
 -- The row of what is armed for the calls that a trace leaves open is the one due.
-abbrev rowAt : Sheet → Configuration → Event → List Living
-rowAt S k e = map (λ i. record { number = e .number; triple = i; entry = e .values }) (armedBy S k e)
+abbrev rowAt : Sheet → Configuration → ℕ → Event → List Living
+rowAt S k p e = map (λ i. record { number = e .number; triple = i; entry = p; values = e .values }) (armedBy S k e)
 
-due-row : (S : Sheet) (w : List Event) (k : Configuration) → armedRow (openings S k w) ≡ dueFrom S k w
+due-row : (S : Sheet) (w : List Event) (k : Configuration) (p : ℕ) → armedRow (openings S k p w) ≡ dueFrom S k p w
 unfolding openings armedRow dueFrom
-due-row S [] k = refl
-due-row S (e ∷ w) k = go (staysOpen e w) (due-row S w (stepped S k e))
+due-row S [] k p = refl
+due-row S (e ∷ w) k p = go (staysOpen e w) (due-row S w (stepped S k e) (p + 1))
   where
-    go : (b : Bool) → armedRow (openings S (stepped S k e) w) ≡ dueFrom S (stepped S k e) w
-        → armedRow (cond b (opening S k e ∷ openings S (stepped S k e) w) (openings S (stepped S k e) w)) ≡ cond b (rowAt S k e) [] ++ dueFrom S (stepped S k e) w
-    go true h = ap (λ (l : List Living). rowAt S k e ++ l) h
+    go : (b : Bool) → armedRow (openings S (stepped S k e) (p + 1) w) ≡ dueFrom S (stepped S k e) (p + 1) w
+        → armedRow (cond b (opening S k p e ∷ openings S (stepped S k e) (p + 1) w) (openings S (stepped S k e) (p + 1) w)) ≡ cond b (rowAt S k p e) [] ++ dueFrom S (stepped S k e) (p + 1) w
+    go true h = ap (λ (l : List Living). rowAt S k p e ++ l) h
     go false h = h
 
 module _ (S : Sheet) (plain : Plain S) where
@@ -93,26 +93,27 @@ module _ (S : Sheet) (plain : Plain S) where
     told-none none e = refl
     told-none (some v) e = absurd (none-some (sym e))
 
-    told-finds : (v : Told) → told (σ .verdict) ≡ some v → Finds S (inOrder S) u (v .position) (v .state) (v .triple)
+    told-finds : (v : Told) → told (σ .verdict) ≡ some v → Finds S (inOrder S) u (v .position) (v .state) (v .triple) (v .entry)
     told-finds v e = go (σ .verdict) refl e
       where
-        go : (o : Option Verdict) → σ .verdict ≡ o → told o ≡ some v → Finds S (inOrder S) u (v .position) (v .state) (v .triple)
+        go : (o : Option Verdict) → σ .verdict ≡ o → told o ≡ some v → Finds S (inOrder S) u (v .position) (v .state) (v .triple) (v .entry)
         go none q e = absurd (none-some e)
         go (some x) q e =
-            let y : record { position = x .position; state = causeState (x .cause); triple = causeTriple (x .cause) } ≡ v = cc in
-            subst (λ (z : Told). Finds S (inOrder S) u (z .position) (z .state) (z .triple)) y (taken-finds S plain t x q)
+            let y : record { position = x .position; state = causeState (x .cause); triple = causeTriple (x .cause); entry = x .entry } ≡ v = cc in
+            subst (λ (z : Told). Finds S (inOrder S) u (z .position) (z .state) (z .triple) (z .entry)) y (taken-finds S plain t x q)
 
-    finds-told : (v : Told) → Finds S (inOrder S) u (v .position) (v .state) (v .triple) → told (σ .verdict) ≡ some v
+    finds-told : (v : Told) → Finds S (inOrder S) u (v .position) (v .state) (v .triple) (v .entry) → told (σ .verdict) ≡ some v
     finds-told v f = go (σ .verdict) refl
       where
         go : (o : Option Verdict) → σ .verdict ≡ o → told o ≡ some v
         go none q = absurd (taken-clear S plain t q u [] (sym (append-nil u)) (f .counterexample))
         go (some x) q =
-            let e = finds-same S plain u (x .position) (v .position) (causeState (x .cause)) (v .state) (causeTriple (x .cause)) (v .triple) (taken-finds S plain t x q) f in
+            let e = finds-same S plain u (x .position) (v .position) (causeState (x .cause)) (v .state) (causeTriple (x .cause)) (v .triple) (x .entry) (v .entry) (taken-finds S plain t x q) f in
             let a : x .position ≡ v .position = cc in
             let b : causeState (x .cause) ≡ v .state = cc in
             let c : causeTriple (x .cause) ≡ v .triple = cc in
-            λ i. some (record { position = a i; state = b i; triple = c i })
+            let d : x .entry ≡ v .entry = cc in
+            λ i. some (record { position = a i; state = b i; triple = c i; entry = d i })
 
   pub meant : (es : List Event) → let σ = defined S es .state in distinct (map (λ (a : Armed). a .call .number) (σ .calls)) ≡ true → length (armedRow (σ .calls)) ≤ 64 → Meant S es (shownBySheet (defined S es))
   unfolding defined shownBySheet
@@ -127,7 +128,7 @@ module _ (S : Sheet) (plain : Plain S) where
         position = holds S t .position;
         main = ap (λ (k : Configuration). k .main) (holds S t .configuration);
         variables = ap (λ (k : Configuration). k .variables) (holds S t .configuration);
-        calls = sym (map-map openCall (λ (a : Armed). a .call) (σ .calls)) ∙ ap (map openCall) (calls-open S t) ∙ map-map openCall openedBy (stillOpen u);
-        checkers = ap armedRow (calls-are S t) ∙ due-row S u (initial S);
+        calls = sym (map-map openCall (λ (a : Armed). a .call) (σ .calls)) ∙ ap (map openCall) (calls-open S t);
+        checkers = ap armedRow (calls-are S t) ∙ due-row S u (initial S) 1;
         exactly = exactly-held S t d few;
       }

@@ -33,9 +33,9 @@ row-shown : (calls : List Call) (l : List Armed) → ((a : Armed) → Among a l 
 unfolding rowOf armedRow
 row-shown calls [] h = refl
 row-shown calls (a ∷ l) h =
-    let row : Option Call → List Living = λ o. map (λ i. record { number = a .call .number; triple = i; entry = keptBy o }) (a .armed) in
-    map-append (living calls) (map (checker (a .call .number)) (a .armed)) (rowOf l)
-    ∙ ap₂ (λ (x y : List Living). x ++ y) (map-map (living calls) (checker (a .call .number)) (a .armed) ∙ ap row (h a (inl refl))) (row-shown calls l (λ b m. h b (inr m)))
+    let row : Option Call → List Living = λ o. map (λ i. record { number = a .call .number; triple = i; entry = a .call .entry; values = keptBy o }) (a .armed) in
+    map-append (living calls) (map (checker (a .call .number) (a .call .entry)) (a .armed)) (rowOf l)
+    ∙ ap₂ (λ (x y : List Living). x ++ y) (map-map (living calls) (checker (a .call .number) (a .call .entry)) (a .armed) ∙ ap row (h a (inl refl))) (row-shown calls l (λ b m. h b (inr m)))
 
 pub row-own : (l : List Armed) → distinct (map (λ (a : Armed). a .call .number) l) ≡ true → map (living (map (λ (a : Armed). a .call) l)) (rowOf l) ≡ armedRow l
 row-own l d = row-shown (map (λ (a : Armed). a .call) l) l (first-own l d)

@@ -105,10 +105,10 @@ module _ (N : Network) (f : formed (N .common) ≡ true) where
         let every-pair = simp and-iff at (every-among (networkLayout .transitionRanged C (N .templates)) (N .transitions) t (simp and-iff at r .0) m) .1 in
         simp (and-iff, leb-iff) at (every-among (pairRanged (countsOf C) (N .templates) (t .base)) (t .pairs) p every-pair n) .1 .0
 
-    pub separated-creates : (k : Configuration) (e : Event) → created (separated N) k e ≡ created N k e
+    pub separated-creates : (k : Configuration) (position : ℕ) (e : Event) → created (separated N) k position e ≡ created N k position e
     unfolding created separated
-    separated-creates k e =
-        let show : List Pair → List Checker = λ l. map (λ (p : Pair). record { number = e .number; template = p .template }) l in
+    separated-creates k position e =
+        let show : List Pair → List Checker = λ l. map (λ (p : Pair). record { number = e .number; template = p .template; entry = position }) l in
         ap (λ (l : List Pair). show (keep (λ (p : Pair). meets D (p .condition) (seen e k)) l)) (sym (pairs-by (new-taken k e)) ∙ ap pairsIn (taken-same k e) ∙ pairs-by (old-taken k e))
         ∙ ap show (go (old-taken k e) refl)
       where
@@ -147,7 +147,7 @@ module _ (N : Network) (f : formed (N .common) ≡ true) where
         bad = g .bad;
         initial = g .initial;
         moves = λ k e. separated-moves k e ∙ g .moves k e;
-        creates = λ k e a b c. separated-creates k e ∙ g .creates k e a b c;
+        creates = λ k p e a b c. separated-creates k p e ∙ g .creates k p e a b c;
         judges = λ i E. separated-judges i E ∙ g .judges i E;
       }
 

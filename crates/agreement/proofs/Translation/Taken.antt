@@ -2,7 +2,7 @@
 use mathlib.Core.Path.{_≡_, refl, sym, ap, ap₂, subst, _∙_}
 use mathlib.Core.Bool.{Bool, true, false, cond, _&&_}
 use mathlib.Core.Option.{Option, none, some}
-use mathlib.Core.List.{List, [], _∷_, _++_, map}
+use mathlib.Core.List.{List, [], _∷_, _++_, map, map-map}
 use Prim.Native.Nat.{ℕ, zero, suc, _<_}
 use native.Mathlib.Omega.{arith}
 use borrow.Author.Tests.{eqb-true, eqb-false, eq-eqb}
@@ -126,20 +126,17 @@ module _ (S : Sheet) (k : Configuration) (e : Event) where
       go (some t) = ap (λ (v : List ℕ). record { main = t .to; variables = v }) (acted-extended C (t .action) (seen e k))
 
   -- The pairs whose condition holds are the triples that are armed.
-  abbrev chosen : List Pair → List Checker
-  chosen m = map (λ (x : Pair). checker (e .number) (x .template)) (keep (λ (x : Pair). meets C (x .condition) (seen e k)) m)
+  abbrev chosen : List Pair → List ℕ
+  chosen m = map (λ (x : Pair). x .template) (keep (λ (x : Pair). meets C (x .condition) (seen e k)) m)
 
-  abbrev found : List ℕ → List Checker
-  found m = map (checker (e .number)) m
-
-  pairs-numbers : (i : ℕ) (l : List Triple) → chosen (pairsFrom i (k .main) (e .unit) l) ≡ found (numbers (arms S k e) i l)
+  pairs-numbers : (i : ℕ) (l : List Triple) → chosen (pairsFrom i (k .main) (e .unit) l) ≡ numbers (arms S k e) i l
   unfolding keep numbers pairsFrom arms
   pairs-numbers i [] = refl
   pairs-numbers i (t ∷ l) = go (eqb (t .state) (k .main)) (eqb (t .unit) (e .unit)) (meets C (t .precondition) (seen e k)) refl _ _ (pairs-numbers (suc i) l)
     where
-      go : (a b c : Bool) → meets C (t .precondition) (seen e k) ≡ c → (rest : List Pair) (others : List ℕ) → chosen rest ≡ found others
-          → chosen (cond (a && b) (record { condition = t .precondition; template = i } ∷ rest) rest) ≡ found (cond (a && (b && c)) (i ∷ others) others)
-      go true true true h rest others r = rw h (ap (λ (m : List Checker). checker (e .number) i ∷ m) r)
+      go : (a b c : Bool) → meets C (t .precondition) (seen e k) ≡ c → (rest : List Pair) (others : List ℕ) → chosen rest ≡ others
+          → chosen (cond (a && b) (record { condition = t .precondition; template = i } ∷ rest) rest) ≡ cond (a && (b && c)) (i ∷ others) others
+      go true true true h rest others r = rw h (ap (λ (m : List ℕ). i ∷ m) r)
       go true true false h rest others r = rw h r
       go true false c h rest others r = r
       go false b c h rest others r = r
@@ -174,10 +171,12 @@ module _ (S : Sheet) (k : Configuration) (e : Event) where
         go (some t) f = own t (first-passes (enabled C k e) (S .transitions) t f .1)
 
     -- so the checkers created are one for each triple armed, in triple order
-    pub created-same : created (translate S) k e ≡ map (checker (e .number)) (armedBy S k e)
+    pub created-same : (position : ℕ) → created (translate S) k position e ≡ map (checker (e .number) position) (armedBy S k e)
     unfolding created translate armedBy
-    created-same =
-        let show : List Pair → List Checker = λ l. map (λ (x : Pair). checker (e .number) (x .template)) l in
+    created-same position =
+        let show : List Pair → List Checker = λ l. map (λ (x : Pair). checker (e .number) position (x .template)) l in
+        let holding = keep (λ (x : Pair). meets C (x .condition) (seen e k)) (pairsOf S (k .main) (e .unit)) in
         ap (λ (l : List Pair). show (keep (λ (x : Pair). meets (extended C) (x .condition) (seen e k)) l)) taken-pairs
         ∙ ap show (keep-same _ (λ (x : Pair). meets C (x .condition) (seen e k)) (pairsOf S (k .main) (e .unit)) (λ x m. meets-extended C (x .condition) (seen e k)))
-        ∙ pairs-numbers 0 (S .triples)
+        ∙ sym (map-map (checker (e .number) position) (λ (x : Pair). x .template) holding)
+        ∙ ap (map (checker (e .number) position)) (pairs-numbers 0 (S .triples))

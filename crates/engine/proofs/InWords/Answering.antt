@@ -20,9 +20,9 @@ module _ (s p : List ℕ) (r : Running) (row variables values : List ℕ) (n : �
     pub entered-there : (first : ℕ) → first ≡ getD p (8 + 2 * cell) 0 → (t : ℕ) → t ≡ foundIn s p first (environment program monitor [])
         → (main ≡ mainAfter p t (r .main)) × (variables₁ ≡ variablesAfter s p t values variables)
         → (g : Given) → unit ≡ g .unit → (opened : ℕ) → opened ≡ r .opened → (i : ℕ) → i ≡ candidateOf p cell t
-        → (row₁ : List ℕ) → row₁ ≡ sets (sets row (16 * opened) (g .number ∷ g .unit ∷ [])) (16 * opened + 8) values
+        → (row₁ : List ℕ) → row₁ ≡ sets (sets row (16 * opened) (g .number ∷ g .unit ∷ [])) (16 * opened + 7) ((r .position + 1) ∷ values)
         → (row₂ : List ℕ) → row₂ ≡ set (sets row₁ (16 * opened + 3) (take 4 (armedIn s p i (environment program monitor [])))) (16 * opened + 2) (length (armedIn s p i (environment program monitor [])))
-        → (r₁ : Running) → r₁ ≡ runAfter p (r .position) main (r .opened + 1) 256
+        → (r₁ : Running) → r₁ ≡ runAfter p (r .position) main (r .opened + 1) 256 0
         → words r₁ row₂ variables₁ ≡ enteredIn s p (words r row variables) g values
     unfolding enteredIn rowWith
     entered-there first ef t et moved g eu opened eo i ei row₁ e₁ row₂ e₂ r₁ er =
@@ -32,7 +32,7 @@ module _ (s p : List ℕ) (r : Running) (row variables values : List ℕ) (n : �
         → (main ≡ mainAfter p t (r .main)) × (variables₁ ≡ variablesAfter s p t values variables)
         → (at low : ℕ) → low ≡ lowIn s p row at program monitor → (opened : ℕ) → opened ≡ r .opened
         → (row₁ : List ℕ) → row₁ ≡ rowWithout row at opened
-        → (r₁ : Running) → r₁ ≡ runAfter p (r .position) main (r .opened - 1) low
+        → (r₁ : Running) → r₁ ≡ runAfter p (r .position) main (r .opened - 1) low (getD row (at + 7) 0)
         → words r₁ row₁ variables₁ ≡ exitedIn s p (words r row variables) unit at values
     unfolding exitedIn
     exited-there first ef t et moved at low el opened eo row₁ e₁ r₁ er =

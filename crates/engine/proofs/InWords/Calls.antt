@@ -93,50 +93,50 @@ eight l h =
     let step : (i : ℕ) → i < 8 → drop i l ≡ getD l i 0 ∷ drop (suc i) l = λ i k. cons-at i l (omega arith) in
     step 0 (omega arith) ∙ ap (λ (m : List ℕ). getD l 0 0 ∷ m) (step 1 (omega arith) ∙ ap (λ (m : List ℕ). getD l 1 0 ∷ m) (step 2 (omega arith) ∙ ap (λ (m : List ℕ). getD l 2 0 ∷ m) (step 3 (omega arith) ∙ ap (λ (m : List ℕ). getD l 3 0 ∷ m) (step 4 (omega arith) ∙ ap (λ (m : List ℕ). getD l 4 0 ∷ m) (step 5 (omega arith) ∙ ap (λ (m : List ℕ). getD l 5 0 ∷ m) (step 6 (omega arith) ∙ ap (λ (m : List ℕ). getD l 6 0 ∷ m) (step 7 (omega arith) ∙ ap (λ (m : List ℕ). getD l 7 0 ∷ m) (nothing l 8 (omega arith)))))))))
 
-abbrev pub newCall : ℕ → ℕ → List ℕ → List ℕ → Armed
-newCall number unit kept armed = record { call = record { number = number; unit = unit; kept = kept }; armed = armed }
+abbrev pub newCall : ℕ → ℕ → ℕ → List ℕ → List ℕ → Armed
+newCall number unit entry kept armed = record { call = record { number = number; unit = unit; entry = entry; kept = kept }; armed = armed }
 
 -- The words of a new call show it.
-new-words : (P n u : ℕ) (a0 a1 a2 a3 a4 a5 a6 a7 a8 a9 a10 a11 a12 a13 a14 a15 : ℕ) (m : List ℕ) (v0 v1 v2 v3 v4 v5 v6 v7 : ℕ) (l : List ℕ) → length l ≤ 4
-    → armedOf P (take 16 (rowWith (a0 ∷ a1 ∷ a2 ∷ a3 ∷ a4 ∷ a5 ∷ a6 ∷ a7 ∷ a8 ∷ a9 ∷ a10 ∷ a11 ∷ a12 ∷ a13 ∷ a14 ∷ a15 ∷ m) 0 n u (v0 ∷ v1 ∷ v2 ∷ v3 ∷ v4 ∷ v5 ∷ v6 ∷ v7 ∷ []) l)) ≡ newCall n u (take P (v0 ∷ v1 ∷ v2 ∷ v3 ∷ v4 ∷ v5 ∷ v6 ∷ v7 ∷ [])) l
+new-words : (P n u q : ℕ) (a0 a1 a2 a3 a4 a5 a6 a7 a8 a9 a10 a11 a12 a13 a14 a15 : ℕ) (m : List ℕ) (v0 v1 v2 v3 v4 v5 v6 v7 : ℕ) (l : List ℕ) → length l ≤ 4
+    → armedOf P (take 16 (rowWith (a0 ∷ a1 ∷ a2 ∷ a3 ∷ a4 ∷ a5 ∷ a6 ∷ a7 ∷ a8 ∷ a9 ∷ a10 ∷ a11 ∷ a12 ∷ a13 ∷ a14 ∷ a15 ∷ m) 0 n u q (v0 ∷ v1 ∷ v2 ∷ v3 ∷ v4 ∷ v5 ∷ v6 ∷ v7 ∷ []) l)) ≡ newCall n u q (take P (v0 ∷ v1 ∷ v2 ∷ v3 ∷ v4 ∷ v5 ∷ v6 ∷ v7 ∷ [])) l
 unfolding armedOf rowWith
-new-words P n u a0 a1 a2 a3 a4 a5 a6 a7 a8 a9 a10 a11 a12 a13 a14 a15 m v0 v1 v2 v3 v4 v5 v6 v7 [] h = refl
-new-words P n u a0 a1 a2 a3 a4 a5 a6 a7 a8 a9 a10 a11 a12 a13 a14 a15 m v0 v1 v2 v3 v4 v5 v6 v7 (x ∷ []) h = refl
-new-words P n u a0 a1 a2 a3 a4 a5 a6 a7 a8 a9 a10 a11 a12 a13 a14 a15 m v0 v1 v2 v3 v4 v5 v6 v7 (x ∷ y ∷ []) h = refl
-new-words P n u a0 a1 a2 a3 a4 a5 a6 a7 a8 a9 a10 a11 a12 a13 a14 a15 m v0 v1 v2 v3 v4 v5 v6 v7 (x ∷ y ∷ z ∷ []) h = refl
-new-words P n u a0 a1 a2 a3 a4 a5 a6 a7 a8 a9 a10 a11 a12 a13 a14 a15 m v0 v1 v2 v3 v4 v5 v6 v7 (x ∷ y ∷ z ∷ w ∷ []) h = refl
-new-words P n u a0 a1 a2 a3 a4 a5 a6 a7 a8 a9 a10 a11 a12 a13 a14 a15 m v0 v1 v2 v3 v4 v5 v6 v7 (x ∷ y ∷ z ∷ w ∷ o ∷ l) h = absurd (omega arith)
+new-words P n u q a0 a1 a2 a3 a4 a5 a6 a7 a8 a9 a10 a11 a12 a13 a14 a15 m v0 v1 v2 v3 v4 v5 v6 v7 [] h = refl
+new-words P n u q a0 a1 a2 a3 a4 a5 a6 a7 a8 a9 a10 a11 a12 a13 a14 a15 m v0 v1 v2 v3 v4 v5 v6 v7 (x ∷ []) h = refl
+new-words P n u q a0 a1 a2 a3 a4 a5 a6 a7 a8 a9 a10 a11 a12 a13 a14 a15 m v0 v1 v2 v3 v4 v5 v6 v7 (x ∷ y ∷ []) h = refl
+new-words P n u q a0 a1 a2 a3 a4 a5 a6 a7 a8 a9 a10 a11 a12 a13 a14 a15 m v0 v1 v2 v3 v4 v5 v6 v7 (x ∷ y ∷ z ∷ []) h = refl
+new-words P n u q a0 a1 a2 a3 a4 a5 a6 a7 a8 a9 a10 a11 a12 a13 a14 a15 m v0 v1 v2 v3 v4 v5 v6 v7 (x ∷ y ∷ z ∷ w ∷ []) h = refl
+new-words P n u q a0 a1 a2 a3 a4 a5 a6 a7 a8 a9 a10 a11 a12 a13 a14 a15 m v0 v1 v2 v3 v4 v5 v6 v7 (x ∷ y ∷ z ∷ w ∷ o ∷ l) h = absurd (omega arith)
 
-new-shown : (P n u : ℕ) (r v l : List ℕ) → 16 ≤ length r → length v ≡ 8 → length l ≤ 4 → armedOf P (take 16 (rowWith r 0 n u v l)) ≡ newCall n u (take P v) l
-new-shown P n u r v l h k few =
-    ap₂ (λ (a b : List ℕ). armedOf P (take 16 (rowWith a 0 n u b l))) (sixteen r h) (eight v k)
-    ∙ new-words P n u _ _ _ _ _ _ _ _ _ _ _ _ _ _ _ _ (drop 16 r) _ _ _ _ _ _ _ _ l few
-    ∙ ap (λ (b : List ℕ). newCall n u (take P b) l) (sym (eight v k))
+new-shown : (P n u q : ℕ) (r v l : List ℕ) → 16 ≤ length r → length v ≡ 8 → length l ≤ 4 → armedOf P (take 16 (rowWith r 0 n u q v l)) ≡ newCall n u q (take P v) l
+new-shown P n u q r v l h k few =
+    ap₂ (λ (a b : List ℕ). armedOf P (take 16 (rowWith a 0 n u q b l))) (sixteen r h) (eight v k)
+    ∙ new-words P n u q _ _ _ _ _ _ _ _ _ _ _ _ _ _ _ _ (drop 16 r) _ _ _ _ _ _ _ _ l few
+    ∙ ap (λ (b : List ℕ). newCall n u q (take P b) l) (sym (eight v k))
 
 -- Storing a call behind a place leaves what stands before it, and behind it is storing it at the front.
-with-before : (row : List ℕ) (at n u : ℕ) (v l : List ℕ) → take at (rowWith row at n u v l) ≡ take at row
+with-before : (row : List ℕ) (at n u q : ℕ) (v l : List ℕ) → take at (rowWith row at n u q v l) ≡ take at row
 unfolding rowWith
-with-before row at n u v l =
+with-before row at n u q v l =
     take-set-le at _ (at + 2) (length l) (omega arith)
     ∙ take-sets at _ (at + 3) (take 4 l) (omega arith)
-    ∙ take-sets at _ (at + 8) v (omega arith)
+    ∙ take-sets at _ (at + 7) (q ∷ v) (omega arith)
     ∙ take-sets at row at (n ∷ u ∷ []) (omega arith)
 
-with-behind : (row : List ℕ) (at n u : ℕ) (v l : List ℕ) → drop at (rowWith row at n u v l) ≡ rowWith (drop at row) 0 n u v l
+with-behind : (row : List ℕ) (at n u q : ℕ) (v l : List ℕ) → drop at (rowWith row at n u q v l) ≡ rowWith (drop at row) 0 n u q v l
 unfolding rowWith
-with-behind row at n u v l =
+with-behind row at n u q v l =
     let front : drop at (sets row at (n ∷ u ∷ [])) ≡ sets (drop at row) 0 (n ∷ u ∷ []) = ap (λ (i : ℕ). drop at (sets row i (n ∷ u ∷ []))) {x = at} {y = at + 0} (omega arith) ∙ drop-sets at row 0 (n ∷ u ∷ []) in
     drop-set-add at _ 2 (length l)
-    ∙ ap (λ (m : List ℕ). set m 2 (length l)) (drop-sets at _ 3 (take 4 l) ∙ ap (λ (m : List ℕ). sets m 3 (take 4 l)) (drop-sets at _ 8 v ∙ ap (λ (m : List ℕ). sets m 8 v) front))
+    ∙ ap (λ (m : List ℕ). set m 2 (length l)) (drop-sets at _ 3 (take 4 l) ∙ ap (λ (m : List ℕ). sets m 3 (take 4 l)) (drop-sets at _ 7 (q ∷ v) ∙ ap (λ (m : List ℕ). sets m 7 (q ∷ v)) front))
 
 -- One more call.
-pub calls-more : (P n : ℕ) (row : List ℕ) (number unit : ℕ) (v l : List ℕ) → 16 * suc n ≤ length row → length v ≡ 8 → length l ≤ 4
-    → map (armedOf P) (entries (n + 1) (rowWith row (16 * n) number unit v l)) ≡ map (armedOf P) (entries n row) ++ newCall number unit (take P v) l ∷ []
-calls-more P n row number unit v l h k few =
-    let new = rowWith row (16 * n) number unit v l in
-    let before : entries n new ≡ entries n row = entries-same n new row (with-before row (16 * n) number unit v l) in
+pub calls-more : (P n : ℕ) (row : List ℕ) (number unit entry : ℕ) (v l : List ℕ) → 16 * suc n ≤ length row → length v ≡ 8 → length l ≤ 4
+    → map (armedOf P) (entries (n + 1) (rowWith row (16 * n) number unit entry v l)) ≡ map (armedOf P) (entries n row) ++ newCall number unit entry (take P v) l ∷ []
+calls-more P n row number unit entry v l h k few =
+    let new = rowWith row (16 * n) number unit entry v l in
+    let before : entries n new ≡ entries n row = entries-same n new row (with-before row (16 * n) number unit entry v l) in
     let room : 16 ≤ length (drop (16 * n) row) = omega (arith, length-drop (16 * n) row) in
-    let own : armedOf P (take 16 (drop (16 * n) new)) ≡ newCall number unit (take P v) l = ap (λ (m : List ℕ). armedOf P (take 16 m)) (with-behind row (16 * n) number unit v l) ∙ new-shown P number unit (drop (16 * n) row) v l room k few in
+    let own : armedOf P (take 16 (drop (16 * n) new)) ≡ newCall number unit entry (take P v) l = ap (λ (m : List ℕ). armedOf P (take 16 m)) (with-behind row (16 * n) number unit entry v l) ∙ new-shown P number unit entry (drop (16 * n) row) v l room k few in
     rw (add-one n)
     (ap (map (armedOf P)) (entries-more n new)
     ∙ map-append (armedOf P) (entries n new) (take 16 (drop (16 * n) new) ∷ [])

@@ -87,9 +87,9 @@ pub reads-some : (n i : ℕ) (l : List ℕ) → i + n ≤ length l → take n (d
 reads-some zero i l h = refl
 reads-some (suc n) i l h = ap (take (suc n)) (drop-cons l i 0 (omega arith)) ∙ ap (λ (r : List ℕ). getD l i 0 ∷ r) (reads-some n (suc i) l (omega arith))
 
--- a call's number, unit and values stored one by one
-pub put-there : (row : List ℕ) (at n m : ℕ) → n ≡ m → (u w : ℕ) → u ≡ w → (v : List ℕ) → length v ≡ 8
-    → set (set (set (set (set (set (set (set (set (set row at n) (at + 1) u) (at + 8) (getD v 0 0)) (at + 9) (getD v 1 0)) (at + 10) (getD v 2 0)) (at + 11) (getD v 3 0)) (at + 12) (getD v 4 0)) (at + 13) (getD v 5 0)) (at + 14) (getD v 6 0)) (at + 15) (getD v 7 0)
-    ≡ sets (sets row at (m ∷ w ∷ [])) (at + 8) v
-put-there row at n m e u w f v h =
-    rw (add-suc at 14, add-suc at 13, add-suc at 12, add-suc at 11, add-suc at 10, add-suc at 9, add-suc at 8, add-one at) (λ i. sets (sets row at (e i ∷ f i ∷ [])) (at + 8) (reads v 0 8)) ∙ ap (sets (sets row at (m ∷ w ∷ [])) (at + 8)) (reads-all 8 0 v h)
+-- a call's number, unit, position of its entry and values stored one by one
+pub put-there : (row : List ℕ) (at n m : ℕ) → n ≡ m → (u w : ℕ) → u ≡ w → (q : ℕ) (v : List ℕ) → length v ≡ 8
+    → set (set (set (set (set (set (set (set (set (set (set row at n) (at + 1) u) (at + 7) q) (at + 8) (getD v 0 0)) (at + 9) (getD v 1 0)) (at + 10) (getD v 2 0)) (at + 11) (getD v 3 0)) (at + 12) (getD v 4 0)) (at + 13) (getD v 5 0)) (at + 14) (getD v 6 0)) (at + 15) (getD v 7 0)
+    ≡ sets (sets row at (m ∷ w ∷ [])) (at + 7) (q ∷ v)
+put-there row at n m e u w f q v h =
+    rw (add-suc at 14, add-suc at 13, add-suc at 12, add-suc at 11, add-suc at 10, add-suc at 9, add-suc at 8, add-suc at 7, add-one at) (λ i. sets (sets row at (e i ∷ f i ∷ [])) (at + 7) (q ∷ reads v 0 8)) ∙ ap (λ (l : List ℕ). sets (sets row at (m ∷ w ∷ [])) (at + 7) (q ∷ l)) (reads-all 8 0 v h)

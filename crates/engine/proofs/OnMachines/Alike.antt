@@ -2,14 +2,14 @@
 use mathlib.Core.Path.{_≡_, refl, ap, _∙_}
 use mathlib.Core.Bool.{Bool, true, false, not, cond}
 use mathlib.Core.Option.{Option, none, some}
-use mathlib.Core.List.{List, [], _∷_, _++_}
+use mathlib.Core.List.{List, [], _∷_, _++_, map}
 use Prim.Native.Nat.{ℕ, zero, suc, _+_, _<_}
 use Rattle.condition.specs.Meaning.{Environment, environment}
 use Rattle.sheet.specs.Log.{Event}
 use Rattle.step.specs.Lists.{first, keep, least}
 use Rattle.step.specs.Meets.{meets}
 use Rattle.step.specs.Moves.{Configuration, moved}
-use Rattle.step.specs.Calls.{isEntry, refusals}
+use Rattle.step.specs.Calls.{isEntry, entryFor, refusals}
 use Rattle.step.specs.Verdicts.{verdict}
 use Rattle.step.specs.Runs.{Offered, Ran, offered, unlessJudged, unlessRefusedAt, runFrom}
 use Rattle.step.proofs.OnLists.Keeping.{keep-same}
@@ -51,9 +51,9 @@ module _ {M N : Machine} (a : Alike M N) where
         let to = a .moves k e in
         λ i. record {
           configuration = to i;
-          calls = σ .calls ++ record { call = record { number = e .number; unit = e .unit; kept = e .values }; armed = arms i } ∷ [];
+          calls = σ .calls ++ record { call = record { number = e .number; unit = e .unit; entry = σ .position + 1; kept = e .values }; armed = arms i } ∷ [];
           position = σ .position + 1;
-          verdict = verdict (a .bad i) (σ .position + 1) (to i .main) none;
+          verdict = verdict (a .bad i) (σ .position + 1) (to i .main) none 0;
         }
 
     exited-alike : exited M σ e ≡ exited N σ e
@@ -61,7 +61,7 @@ module _ {M N : Machine} (a : Alike M N) where
     exited-alike =
         let to = a .moves k e in
         let low = failing-alike (first (ofNumber (e .number)) (σ .calls)) in
-        λ i. record { configuration = to i; calls = keep (λ b. not (ofNumber (e .number) b)) (σ .calls); position = σ .position + 1; verdict = verdict (a .bad i) (σ .position + 1) (to i .main) (low i) }
+        λ i. record { configuration = to i; calls = keep (λ b. not (ofNumber (e .number) b)) (σ .calls); position = σ .position + 1; verdict = verdict (a .bad i) (σ .position + 1) (to i .main) (low i) (entryFor (e .number) (map (λ b. b .call) (σ .calls))) }
 
     -- One event, in a state that is declared; an entry that is not refused is of a unit that is.
     pub offer-alike : σ .configuration .main < N .common .states → offer M σ e ≡ offer N σ e

@@ -2,7 +2,7 @@
 use mathlib.Core.Path.{_≡_, refl, sym, ap, _∙_}
 use mathlib.Core.Bool.{Bool, true, false, not, cond}
 use mathlib.Core.List.{List, [], _∷_, map, map-append}
-use Prim.Native.Nat.{ℕ, zero, suc, _<_}
+use Prim.Native.Nat.{ℕ, _+_, zero, suc, _<_}
 use native.Mathlib.Omega.{arith}
 use borrow.Author.Tests.{eq-eqb, eqb-true}
 use lib.Dec.{eqb, ltb}
@@ -48,7 +48,7 @@ module _ (M : Machine) (last : ℕ) (s p : List ℕ) (c : Carries M last s p) (�
     entered-steady : Steady (M .common) last (entered M σ e)
     unfolding entered every
     entered-steady =
-        let new : Armed = record { call = record { number = e .number; unit = e .unit; kept = e .values }; armed = M .arming (σ .configuration) e } in
+        let new : Armed = record { call = record { number = e .number; unit = e .unit; entry = σ .position + 1; kept = e .values }; armed = M .arming (σ .configuration) e } in
         let shut : any (λ (d : Call). eqb (d .number) (e .number)) (map (λ (a : Armed). a .call) (σ .calls)) ≡ false = rw y at (free .notOpen) in
         let room = entry-room free (eqb-true (e .kind) 0 y) in
         let longer = length-append (σ .calls) (new ∷ []) in

@@ -17,7 +17,7 @@ use Rattle.sheet.proofs.Tests.{eqb-iff}
 use Rattle.step.specs.declared.Verdict.{Verdict}
 use Rattle.step.specs.Lists.{Among, first, keep, any, least, distinct, placeOf}
 use Rattle.step.specs.Moves.{Configuration, seen, moved}
-use Rattle.step.specs.Calls.{Call, isEntry, lastPosition, refusals, lowest}
+use Rattle.step.specs.Calls.{Call, isEntry, entryFor, lastPosition, refusals, lowest}
 use Rattle.step.specs.Verdicts.{verdict, isJudged, verdictIn, outcomeOf}
 use Rattle.step.specs.Runs.{offered}
 use Rattle.step.specs.Walk.{numberIn, leastOf}
@@ -27,6 +27,7 @@ use Rattle.step.proofs.OnEvents.Refusing.{refusalBy, refusal-asked, entry-room,
 use Rattle.step.proofs.OnEvents.Refusing as Refusing
 use Rattle.step.proofs.OnLists.Rooms.{verdict-outcome, take-fitted, length-fit}
 use Rattle.step.proofs.OnLists.Searching.{any-place}
+use Rattle.step.proofs.OnEvents.Entries.{entry-found}
 use Rattle.step.proofs.OnLists.Keeping.{every-among, keep-same, place-map, image-at, first-place, number-least}
 use Rattle.engine.specs.declared.Running.{Running}
 use Rattle.engine.specs.Machine.{Machine, Armed, State, fails, failing, ofNumber, entered, exited, refusal, offer}
@@ -37,7 +38,7 @@ use Rattle.engine.proofs.InWords.Entries.{length-entries, entry-at, dro
 use Rattle.engine.proofs.InWords.Calls.{number-there, full-there, unit-there, calls-more, calls-fewer, newCall}
 
 abbrev pub noArmed : Armed
-noArmed = record { call = record { number = 0; unit = 0; kept = [] }; armed = [] }
+noArmed = record { call = record { number = 0; unit = 0; entry = 0; kept = [] }; armed = [] }
 
 module _ (C : Common) (σ : Words) where
   shown-calls : map (λ (a : Armed). a .call) (shownBy C σ .calls) ≡ map (callOf (C .programs)) (entries (σ .run .opened) (σ .row))
@@ -154,20 +155,20 @@ module _ (M : Machine) (last : ℕ) (s p : List ℕ) (σ : Words) (e : Event) (c
     abbrev to : Configuration
     to = moved C (M .transitions) k e
 
-    -- what is shown after an event, for the transition that was found and the lowest number that fails
-    shown-after : (t : ℕ) → t ≡ foundBy s p (heldBy (M .common) σ) e → (opened low : ℕ) (o : Option ℕ) → numberIn low ≡ o → (row : List ℕ) (calls : List Armed) → map (armedOf (M .common .programs)) (entries opened row) ≡ calls
-        → shownBy (M .common) (words (runAfter p (σ .run .position) (mainAfter p t (σ .run .main)) opened low) row (variablesAfter s p t (eightOf e) (σ .variables)))
+    -- what is shown after an event, for the transition that was found, the lowest number that fails and the entry of its call
+    shown-after : (t : ℕ) → t ≡ foundBy s p (heldBy (M .common) σ) e → (opened low : ℕ) (o : Option ℕ) → numberIn low ≡ o → (entry begun : ℕ) → entry ≡ begun → (row : List ℕ) (calls : List Armed) → map (armedOf (M .common .programs)) (entries opened row) ≡ calls
+        → shownBy (M .common) (words (runAfter p (σ .run .position) (mainAfter p t (σ .run .main)) opened low entry) row (variablesAfter s p t (eightOf e) (σ .variables)))
         ≡ stateOf (moved (M .common) (M .transitions) (heldBy (M .common) σ) e .main) (moved (M .common) (M .transitions) (heldBy (M .common) σ) e .variables) calls (σ .run .position + 1)
-        (verdict (M .common .bad) (σ .run .position + 1) (moved (M .common) (M .transitions) (heldBy (M .common) σ) e .main) o)
+        (verdict (M .common .bad) (σ .run .position + 1) (moved (M .common) (M .transitions) (heldBy (M .common) σ) e .main) o begun)
     unfolding shownBy
-    shown-after t et opened low o el row calls ec =
+    shown-after t et opened low o el entry begun eb row calls ec =
         let main : mainAfter p t (r .main) ≡ to .main = ap (λ (i : ℕ). mainAfter p i (r .main)) et ∙ c .moves k e fits in
         let long : length (to .variables) ≡ C .monitors = moved-variables C (M .transitions) k e ∙ fits .variables in
         let variables : take (C .monitors) (variablesAfter s p t (eightOf e) (σ .variables)) ≡ to .variables =
         ap (λ (i : ℕ). take (C .monitors) (variablesAfter s p i (eightOf e) (σ .variables))) et ∙ ap (take (C .monitors)) (c .alters k e fits (σ .variables) refl) ∙ take-at (to .variables) _ (C .monitors) long in
-        let judged : ℕ → ℕ → Option ℕ → Option Verdict = λ bad main t. verdict bad (r .position + 1) main t in
-        let outcome : verdictIn (outcomeOf (verdict (badIn p) (r .position + 1) (mainAfter p t (r .main)) (numberIn low))) ≡ judged (C .bad) (to .main) o =
-        verdict-outcome (verdict (badIn p) (r .position + 1) (mainAfter p t (r .main)) (numberIn low)) ∙ (λ i. judged (c .bad i) (main i) (el i)) in
+        let judged : ℕ → ℕ → Option ℕ → ℕ → Option Verdict = λ bad main t n. verdict bad (r .position + 1) main t n in
+        let outcome : verdictIn (outcomeOf (verdict (badIn p) (r .position + 1) (mainAfter p t (r .main)) (numberIn low) entry)) ≡ judged (C .bad) (to .main) o begun =
+        verdict-outcome (verdict (badIn p) (r .position + 1) (mainAfter p t (r .main)) (numberIn low) entry) ∙ (λ i. judged (c .bad i) (main i) (el i) (eb i)) in
         λ i. stateOf (main i) (variables i) (ec i) (r .position + 1) (outcome i)
 
     pub entered-shown : e .kind ≡ 0 → shownBy (M .common) (enteredIn s p σ (givenOf e) (eightOf e)) ≡ entered M (shownBy (M .common) σ) e
@@ -181,11 +182,11 @@ module _ (M : Machine) (last : ℕ) (s p : List ℕ) (σ : Words) (e : Event) (c
         let armed : armedIn s p (candidateOf p cell t) (seenIn p (eightOf e) (σ .variables)) ≡ l = (λ i. armedIn s p (candidateOf p cell (found i)) (lent-seen i)) ∙ c .arms k e fits z0 in
         let room : 16 * suc (r .opened) ≤ length (σ .row) = omega (arith, long, rw length-map at (entry-room free z0), shown-count C σ) in
         let kept : take P (eightOf e) ≡ e .values = take-fitted 0 8 P (e .values) (free .values) (c .fewPrograms) in
-        let row : List ℕ → List ℕ = λ a. rowWith (σ .row) (16 * r .opened) (e .number) (e .unit) (eightOf e) a in
-        let calls : map (armedOf P) (entries (r .opened + 1) (row l)) ≡ map (armedOf P) (entries (r .opened) (σ .row)) ++ newCall (e .number) (e .unit) (e .values) l ∷ [] =
-        calls-more P (r .opened) (σ .row) (e .number) (e .unit) (eightOf e) l room (length-fit 8 0 (e .values)) (c .fewArms k e) ∙ ap (λ (v : List ℕ). map (armedOf P) (entries (r .opened) (σ .row)) ++ newCall (e .number) (e .unit) v l ∷ []) kept in
-        let run = runAfter p (r .position) (mainAfter p t (r .main)) (r .opened + 1) 256 in
-        ap (λ (a : List ℕ). shownBy C (words run (row a) (variablesAfter s p t (eightOf e) (σ .variables)))) armed ∙ shown-after t found (r .opened + 1) 256 none refl (row l) _ calls
+        let row : List ℕ → List ℕ = λ a. rowWith (σ .row) (16 * r .opened) (e .number) (e .unit) (r .position + 1) (eightOf e) a in
+        let calls : map (armedOf P) (entries (r .opened + 1) (row l)) ≡ map (armedOf P) (entries (r .opened) (σ .row)) ++ newCall (e .number) (e .unit) (r .position + 1) (e .values) l ∷ [] =
+        calls-more P (r .opened) (σ .row) (e .number) (e .unit) (r .position + 1) (eightOf e) l room (length-fit 8 0 (e .values)) (c .fewArms k e) ∙ ap (λ (v : List ℕ). map (armedOf P) (entries (r .opened) (σ .row)) ++ newCall (e .number) (e .unit) (r .position + 1) v l ∷ []) kept in
+        let run = runAfter p (r .position) (mainAfter p t (r .main)) (r .opened + 1) 256 0 in
+        ap (λ (a : List ℕ). shownBy C (words run (row a) (variablesAfter s p t (eightOf e) (σ .variables)))) armed ∙ shown-after t found (r .opened + 1) 256 none refl 0 0 refl (row l) _ calls
 
     -- at an exit
     number-open : e .kind ≡ 1 → any (ofNumber (e .number)) (shownBy (M .common) σ .calls) ≡ true
@@ -242,6 +243,17 @@ module _ (M : Machine) (last : ℕ) (s p : List ℕ) (σ : Words) (e : Event) (c
         let low : List ℕ → List ℕ → List ℕ → List ℕ → Option ℕ = λ values variables kept armed. numberIn (leastOf 256 (keep (λ n. not (holdsBy s (postOf p n) (environment values variables kept))) armed)) in
         (λ i. low (values-lent i) (variables-lent i) (kept i) (armed i)) ∙ judged-armed a (first-passes (ofNumber n) l a here .0) ∙ ap (failing M k e) (sym here)
 
+    -- and the position of its entry
+    entry-row : e .kind ≡ 1 → getD (σ .row) (placeIn (e .number) (σ .run .opened) (σ .row) + 7) 0 ≡ entryFor (e .number) (map (λ (a : Armed). a .call) (shownBy (M .common) σ .calls))
+    unfolding armedOf
+    entry-row z1 =
+        let n = e .number in
+        let l = shownBy C σ .calls in
+        let here = first-place (ofNumber n) noArmed l (number-open z1) in
+        sym (word-behind (σ .row) (placeIn n (r .opened) (σ .row)) 7 (omega arith))
+        ∙ sym (ap (λ (b : Armed). b .call .entry) (words-there z1))
+        ∙ sym (entry-found (λ (a : Armed). a .call) n l (getD l (placeOf (ofNumber n) l) noArmed) here)
+
     pub exited-shown : e .kind ≡ 1 → shownBy (M .common) (exitedIn s p σ (e .unit) (placeIn (e .number) (σ .run .opened) (σ .row)) (eightOf e)) ≡ exited M (shownBy (M .common) σ) e
     unfolding exitedIn exited shownBy
     exited-shown z1 =
@@ -252,7 +264,7 @@ module _ (M : Machine) (last : ℕ) (s p : List ℕ) (σ : Words) (e : Event) (c
         let at = placeIn (e .number) (r .opened) (σ .row) in
         let low = lowIn s p (σ .row) at (take (programsIn p) (eightOf e)) (take (monitorsIn p) (σ .variables)) in
         let left = calls-fewer P (e .number) (r .opened) (σ .row) place refl (place-open z1) (omega (arith, long, few)) apart in
-        shown-after t found (r .opened - 1) low _ (judged-row z1) (rowWithout (σ .row) at (r .opened)) _ left
+        shown-after t found (r .opened - 1) low _ (judged-row z1) _ _ (entry-row z1) (rowWithout (σ .row) at (r .opened)) _ left
 
   offered-first : cond (leb (σ .run .opened) 16) (refusalIn p (σ .run) (σ .row) (givenOf e) (placeIn (e .number) (σ .run .opened) (σ .row))) 9 ≡ refusal M (shownBy (M .common) σ) e
   offered-first = rw (le-leb (r .opened) 16 few) refusal-shown

@@ -20,13 +20,13 @@ use Rattle.engine.proofs.OnMachines.Keeps.{offer-steady}
 use Rattle.engine.proofs.OnMachines.Shown.{shown-count, offer-answer, offer-shown}
 
 -- an event keeps the row's length
-row-with : (row : List ℕ) (at number unit : ℕ) (values armed : List ℕ) → length (rowWith row at number unit values armed) ≡ length row
+row-with : (row : List ℕ) (at number unit entry : ℕ) (values armed : List ℕ) → length (rowWith row at number unit entry values armed) ≡ length row
 unfolding rowWith
-row-with row at number unit values armed =
+row-with row at number unit entry values armed =
     let r₁ = sets row at (number ∷ unit ∷ []) in
-    let r₂ = sets r₁ (at + 8) values in
+    let r₂ = sets r₁ (at + 7) (entry ∷ values) in
     let r₃ = sets r₂ (at + 3) (take 4 armed) in
-    length-set r₃ (at + 2) (length armed) ∙ length-sets r₂ (at + 3) (take 4 armed) ∙ length-sets r₁ (at + 8) values ∙ length-sets row at (number ∷ unit ∷ [])
+    length-set r₃ (at + 2) (length armed) ∙ length-sets r₂ (at + 3) (take 4 armed) ∙ length-sets r₁ (at + 7) (entry ∷ values) ∙ length-sets row at (number ∷ unit ∷ [])
 
 row-without : (row : List ℕ) (at opened : ℕ) → length (rowWithout row at opened) ≡ length row
 unfolding rowWithout
@@ -40,7 +40,7 @@ row-kept s p σ e = go (cond (leb (σ .run .opened) 16) (refusalIn p (σ .run) (
     at = placeIn (e .number) (σ .run .opened) (σ .row)
 
     go : (n : ℕ) (b : Bool) → length (offered n σ (cond b (enteredIn s p σ (givenOf e) (eightOf e)) (exitedIn s p σ (e .unit) at (eightOf e))) .state .row) ≡ length (σ .row)
-    go zero true = row-with (σ .row) _ _ _ _ _
+    go zero true = row-with (σ .row) _ _ _ _ _ _
     go zero false = row-without (σ .row) _ _
     go (suc n) b = refl
 

@@ -3,8 +3,8 @@ use mathlib.Core.Path.{_≡_, refl, sym, _∙_, ap, subst}
 use mathlib.Core.Logic.{_↔_}
 use mathlib.Core.Bool.{Bool, true, false, cond}
 use mathlib.Core.Option.{Option, none, some}
-use mathlib.Core.List.{List, [], _∷_, _++_, append-assoc}
-use Prim.Native.Nat.{ℕ, _<_}
+use mathlib.Core.List.{List, [], _∷_, _++_, map, append-assoc}
+use Prim.Native.Nat.{ℕ, _+_, _<_}
 use native.Mathlib.Omega.{arith}
 use lib.ListN.{length}
 use borrow.Author.Tests.{eqb-true, eqb-false, eq-eqb, not-true}
@@ -18,12 +18,14 @@ use Rattle.sheet.proofs.Tables.{and-both}
 use Rattle.step.specs.Lists.{Among, first, keep}
 use Rattle.step.specs.Meets.{meets}
 use Rattle.step.specs.Moves.{Configuration, seen}
-use Rattle.step.specs.Calls.{isEntry}
+use Rattle.step.specs.Calls.{isEntry, entryFor}
+use Rattle.step.specs.Verdicts.{carried}
+use Rattle.step.proofs.OnEvents.Entries.{entry-found}
 use Rattle.step.proofs.OnLists.Lists.{none-some, kept-passes, passes-kept, number-passes, passes-number, least-none, least-some}
-use Rattle.monitor.specs.Monitor.{Armed, State, initial, tripleIn, arms, armedBy, fails, failing, ofNumber, refusal}
+use Rattle.monitor.specs.Monitor.{Armed, State, tripleIn, arms, armedBy, fails, failing, ofNumber, refusal}
 use Rattle.monitor.specs.Published.{reached, inOrder, Breaks}
-use Rattle.monitor.specs.Demand.{Lowest}
-use Rattle.monitor.proofs.Demand2.Traces.{Leads, opening, Opened, snoc-same}
+use Rattle.monitor.specs.Demand.{Lowest, Began}
+use Rattle.monitor.proofs.Demand2.Traces.{Leads, opening, snoc-same}
 use Rattle.monitor.proofs.Demand2.Calls.{held-opened, opened-held, unit-held, free}
 use Rattle.monitor.proofs.Demand2.StillOpen.{one}
 
@@ -75,15 +77,20 @@ module _ (S : Sheet) (k : Configuration) (e : Event) (i : ℕ) where
 
 module _ (S : Sheet) (plain : Plain S) where
   module _ {w : List Event} {σ : State} (t : Leads S w σ) (e : Event) (h : refusal S σ e ≡ 0) (i : ℕ) where
+    -- the call that was broken is held under the exit's number, with the position of its entry
+    pub breaks-held : (b : Breaks S (inOrder S) (w ++ e ∷ []) i) → first (ofNumber (e .number)) (σ .calls) ≡ some (opening S (reached S (b .w₁)) (length (b .w₁) + 1) (b .entry))
+    breaks-held b =
+        let (p, q) = snoc-same w (b .w₁ ++ b .entry ∷ b .w₂) e (b .exit) (b .parts ∙ sym (append-assoc (b .w₁) (b .entry ∷ b .w₂) (b .exit ∷ []))) in
+        let n : b .entry .number ≡ e .number = rw q (sym (b .sameNumber)) in
+        opened-held S t (e .number) _ (record { w₁ = b .w₁; entry = b .entry; w₂ = b .w₂; parts = p; kind = b .isEntry; number = n; apart = rw n at (b .apart); call = refl })
+
     -- what the published definition finds broken after the event is what the monitor finds broken at it
     pub breaks-closes : Breaks S (inOrder S) (w ++ e ∷ []) i → Closes S σ e i
     unfolding fails
     breaks-closes b =
         let (p, q) = snoc-same w (b .w₁ ++ b .entry ∷ b .w₂) e (b .exit) (b .parts ∙ sym (append-assoc (b .w₁) (b .entry ∷ b .w₂) (b .exit ∷ []))) in
-        let a = opening S (reached S (b .w₁)) (b .entry) in
-        let n : b .entry .number ≡ e .number = rw q (sym (b .sameNumber)) in
-        let o : Opened S (e .number) (initial S) w a = record { w₁ = b .w₁; entry = b .entry; w₂ = b .w₂; parts = p; kind = b .isEntry; number = n; apart = rw n at (b .apart); call = refl } in
-        let f = opened-held S t (e .number) a o in
+        let a = opening S (reached S (b .w₁)) (length (b .w₁) + 1) (b .entry) in
+        let f = breaks-held b in
         let m = arms-armed S (reached S (b .w₁)) (b .entry) i (record { there = b .there; inState = rw (b .leads) at (b .inState); ofUnit = b .ofUnit; precondition = rw (b .leads) at (b .precondition) }) in
         let g : meets (S .common) (tripleIn S i .postcondition) (environment (e .values) [] (b .entry .values)) ≡ false = rw q (b .postcondition) in (
           rw q (b .isExit),
@@ -156,3 +163,13 @@ module _ (S : Sheet) (plain : Plain S) where
     -- The triple that the monitor finds broken is the lowest that the trace breaks with this event.
     pub lowest-broken : Lowest S (inOrder S) (w ++ e ∷ []) (brokenAt S σ e)
     lowest-broken = lowest-step (isEntry e) refl
+
+    begun-step : (l : Option ℕ) → Lowest S (inOrder S) (w ++ e ∷ []) l → Began S (inOrder S) (w ++ e ∷ []) l (carried l (entryFor (e .number) (map (λ (a : Armed). a .call) (σ .calls))))
+    begun-step none k = refl
+    begun-step (some i) k =
+        let b = k .broken i refl .0 in
+        (b, entry-found (λ (a : Armed). a .call) (e .number) (σ .calls) (opening S (reached S (b .w₁)) (length (b .w₁) + 1) (b .entry)) (breaks-held t e h i b))
+
+    -- The entry that the monitor finds is that of the call that broke it.
+    pub begun-broken : Began S (inOrder S) (w ++ e ∷ []) (brokenAt S σ e) (carried (brokenAt S σ e) (entryFor (e .number) (map (λ (a : Armed). a .call) (σ .calls))))
+    begun-broken = begun-step (brokenAt S σ e) lowest-broken

@@ -4,7 +4,7 @@ use mathlib.Core.Logic.{_⊎_, inl, inr, _↔_}
 use mathlib.Core.Bool.{Bool, true, false, not, cond, _&&_, false≢true}
 use mathlib.Core.Option.{Option, none, some}
 use mathlib.Core.List.{List, [], _∷_, _++_, map, append-nil}
-use Prim.Native.Nat.{ℕ, _≤_}
+use Prim.Native.Nat.{ℕ, _≤_, _+_}
 use native.Mathlib.Omega.{arith}
 use lib.Dec.{eqb}
 use lib.ListN.{length, length-append}
@@ -64,22 +64,22 @@ head-list (some a) = refl
 pub record Holds (S : Sheet) (w : List Event) (σ : State) : Type 0 where
   pub configuration : σ .configuration ≡ reached S w
   pub position : σ .position ≡ length w
-  pub calls : (n : ℕ) → keep (ofNumber n) (σ .calls) ≡ listOf (callOf S n (initial S) none w)
+  pub calls : (n : ℕ) → keep (ofNumber n) (σ .calls) ≡ listOf (callOf S n (initial S) 1 none w)
 
-module _ (S : Sheet) (n : ℕ) (k : Configuration) (e : Event) (l : List Armed) (o : Option Armed) (h : keep (ofNumber n) l ≡ listOf o) where
+module _ (S : Sheet) (n : ℕ) (k : Configuration) (p : ℕ) (e : Event) (l : List Armed) (o : Option Armed) (h : keep (ofNumber n) l ≡ listOf o) where
   entry-step : (b : Bool) → eqb (e .number) n ≡ b → isEntry e ≡ true → keep (ofNumber (e .number)) l ≡ []
-      → keep (ofNumber n) (l ++ opening S k e ∷ []) ≡ listOf (next S n k e o)
+      → keep (ofNumber n) (l ++ opening S k p e ∷ []) ≡ listOf (next S n k p e o)
   unfolding keep
-  entry-step true p q z =
-      let t = eqb-true (e .number) n p in
-      rw (keep-append (ofNumber n) l (opening S k e ∷ []), p, q) (ap (λ j. j ++ opening S k e ∷ []) (rw t at z))
-  entry-step false p q z = rw (keep-append (ofNumber n) l (opening S k e ∷ []), p, h) (append-nil (listOf o))
+  entry-step true x q z =
+      let t = eqb-true (e .number) n x in
+      rw (keep-append (ofNumber n) l (opening S k p e ∷ []), x, q) (ap (λ j. j ++ opening S k p e ∷ []) (rw t at z))
+  entry-step false x q z = rw (keep-append (ofNumber n) l (opening S k p e ∷ []), x, h) (append-nil (listOf o))
 
-  exit-step : (b : Bool) → eqb (e .number) n ≡ b → isEntry e ≡ false → keep (ofNumber n) (keep (λ a. not (ofNumber (e .number) a)) l) ≡ listOf (next S n k e o)
-  exit-step true p q =
-      rw (p, q) (keep-without (ofNumber n) (λ a. not (ofNumber (e .number) a)) (λ a t. rw (eqb-true (a .call .number) n t, eqb-true (e .number) n p, eq-eqb n n refl)) l)
-  exit-step false p q =
-      rw p (keep-again (ofNumber n) (λ a. not (ofNumber (e .number) a)) (λ a t. rw (ne-eqb (a .call .number) (e .number) (λ s. eqb-false (e .number) n p (sym s ∙ eqb-true (a .call .number) n t)))) l ∙ h)
+  exit-step : (b : Bool) → eqb (e .number) n ≡ b → isEntry e ≡ false → keep (ofNumber n) (keep (λ a. not (ofNumber (e .number) a)) l) ≡ listOf (next S n k p e o)
+  exit-step true x q =
+      rw (x, q) (keep-without (ofNumber n) (λ a. not (ofNumber (e .number) a)) (λ a t. rw (eqb-true (a .call .number) n t, eqb-true (e .number) n x, eq-eqb n n refl)) l)
+  exit-step false x q =
+      rw x (keep-again (ofNumber n) (λ a. not (ofNumber (e .number) a)) (λ a t. rw (ne-eqb (a .call .number) (e .number) (λ s. eqb-false (e .number) n x (sym s ∙ eqb-true (a .call .number) n t)))) l ∙ h)
 
 module _ (S : Sheet) where
   -- the number that an entry opens was not open
@@ -93,13 +93,13 @@ module _ (S : Sheet) where
       record {
         configuration = rw (shift-snoc S (initial S) w e, i .configuration);
         position = rw (length-append w (e ∷ []), i .position);
-        calls = λ n. rw (call-snoc S n (initial S) none w e, i .configuration) (entry-step S n (reached S w) e (σ .calls) (callOf S n (initial S) none w) (i .calls n) (eqb (e .number) n) refl t (not-open σ e h t));
+        calls = λ n. rw (call-snoc S n (initial S) 1 none w e, i .configuration, i .position) (entry-step S n (reached S w) (length w + 1) e (σ .calls) (callOf S n (initial S) 1 none w) (i .calls n) (eqb (e .number) n) refl t (not-open σ e h t));
       }
   holds-step w σ e false t h i =
       record {
         configuration = rw (shift-snoc S (initial S) w e, i .configuration);
         position = rw (length-append w (e ∷ []), i .position);
-        calls = λ n. rw (call-snoc S n (initial S) none w e) (exit-step S n (reached S w) e (σ .calls) (callOf S n (initial S) none w) (i .calls n) (eqb (e .number) n) refl t);
+        calls = λ n. rw (call-snoc S n (initial S) 1 none w e) (exit-step S n (reached S w) (length w + 1) e (σ .calls) (callOf S n (initial S) 1 none w) (i .calls n) (eqb (e .number) n) refl t);
       }
 
   pub holds : {w : List Event} {σ : State} → Leads S w σ → Holds S w σ
@@ -109,29 +109,29 @@ module _ (S : Sheet) where
 
   -- The call held under a number is the one that the trace opened and left open, if there is one; no two calls have one number.
   module _ {w : List Event} {σ : State} (t : Leads S w σ) (n : ℕ) where
-    pub held : first (ofNumber n) (σ .calls) ≡ callOf S n (initial S) none w
-    held = first-keep (ofNumber n) (σ .calls) ∙ rw (holds t .calls n) (head-list (callOf S n (initial S) none w))
+    pub held : first (ofNumber n) (σ .calls) ≡ callOf S n (initial S) 1 none w
+    held = first-keep (ofNumber n) (σ .calls) ∙ rw (holds t .calls n) (head-list (callOf S n (initial S) 1 none w))
 
-    pub held-opened : (a : Armed) → first (ofNumber n) (σ .calls) ≡ some a → Opened S n (initial S) w a
-    held-opened a h = either (call-opened S n (initial S) none w a (sym held ∙ h))
+    pub held-opened : (a : Armed) → first (ofNumber n) (σ .calls) ≡ some a → Opened S n (initial S) 1 w a
+    held-opened a h = either (call-opened S n (initial S) 1 none w a (sym held ∙ h))
       where
-        either : ((none ≡ some a) × (every (another n) w ≡ true)) ⊎ Opened S n (initial S) w a → Opened S n (initial S) w a
+        either : ((none ≡ some a) × (every (another n) w ≡ true)) ⊎ Opened S n (initial S) 1 w a → Opened S n (initial S) 1 w a
         either (inl p) = absurd (none-some (p .0))
         either (inr r) = r
 
-    pub opened-held : (a : Armed) → Opened S n (initial S) w a → first (ofNumber n) (σ .calls) ≡ some a
-    opened-held a h = held ∙ opened-call S n (initial S) none w a h
+    pub opened-held : (a : Armed) → Opened S n (initial S) 1 w a → first (ofNumber n) (σ .calls) ≡ some a
+    opened-held a h = held ∙ opened-call S n (initial S) 1 none w a h
 
     -- so there is none just where the trace leaves none open
-    pub held-none : first (ofNumber n) (σ .calls) ≡ none ↔ ((a : Armed) → Opened S n (initial S) w a → ⊥)
+    pub held-none : first (ofNumber n) (σ .calls) ≡ none ↔ ((a : Armed) → Opened S n (initial S) 1 w a → ⊥)
     held-none = (λ q a h. none-some (sym q ∙ opened-held a h), λ k. decide (first (ofNumber n) (σ .calls)) refl k)
       where
-        decide : (o : Option Armed) → first (ofNumber n) (σ .calls) ≡ o → ((a : Armed) → Opened S n (initial S) w a → ⊥) → o ≡ none
+        decide : (o : Option Armed) → first (ofNumber n) (σ .calls) ≡ o → ((a : Armed) → Opened S n (initial S) 1 w a → ⊥) → o ≡ none
         decide none q k = refl
         decide (some a) q k = absurd (k a (held-opened a q))
 
     pub different : length (keep (ofNumber n) (σ .calls)) ≤ 1
-    different = rw (holds t .calls n) (short (callOf S n (initial S) none w))
+    different = rw (holds t .calls n) (short (callOf S n (initial S) 1 none w))
       where
         short : (o : Option Armed) → length (listOf o) ≤ 1
         short none = omega arith

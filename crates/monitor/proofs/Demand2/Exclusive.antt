@@ -15,7 +15,7 @@ use Rattle.step.specs.Answers.{Ending}
 use Rattle.step.proofs.OnLists.Lists.{first-passes, none-passes}
 use Rattle.monitor.specs.Monitor.{initial}
 use Rattle.monitor.specs.Published.{shift, Leading, inOrder, asPrinted, Step, Shifts, Breaks, Counterexample}
-use Rattle.monitor.specs.Demand.{Clear, Finds, Violated, Refused, Clean, Published, Exclusive, OrderAgrees}
+use Rattle.monitor.specs.Demand.{Clear, Finds, Violated, Refused, Clean, Published, Exclusive, OrderAgrees, Began}
 use Rattle.monitor.proofs.Demand2.Traces.{stepped}
 use Rattle.monitor.proofs.Demand2.Acceptance.{demand2}
 
@@ -80,8 +80,13 @@ module _ (S : Sheet) (R Q : Leading) (f : (w : List Event) (k : Configuration) �
   clear-over : {w : List Event} → Clear S R w → Clear S Q w
   clear-over h u v p c = h u v p (counter-over S Q R g c)
 
-  finds-over : {w : List Event} {n : ℕ} {q t : Option ℕ} → Finds S R w n q t → Finds S Q w n q t
-  finds-over {w} h =
+  began-over : (w : List Event) (t : Option ℕ) (a : ℕ) → Began S R w t a → Began S Q w t a
+  unfolding breaks-over
+  began-over w none a h = h
+  began-over w (some i) a (b, h) = (breaks-over S R Q f b, h)
+
+  finds-over : {w : List Event} {n : ℕ} {q t : Option ℕ} {a : ℕ} → Finds S R w n q t a → Finds S Q w n q t a
+  finds-over {w} {t = t} {a = a} h =
       record {
         counterexample = counter-over S R Q f (h .counterexample);
         counted = h .counted;
@@ -92,9 +97,10 @@ module _ (S : Sheet) (R Q : Leading) (f : (w : List Event) (k : Configuration) �
           unbroken = λ e i b. h .lowest .unbroken e i (breaks-over S Q R g b);
           broken = λ i e. let (b, l) = h .lowest .broken i e in (breaks-over S R Q f b, λ j c. l j (breaks-over S Q R g c));
         };
+        began = began-over w t a (h .began);
       }
 
-  violated-over : {es : List Event} {n : ℕ} {q t : Option ℕ} → Violated S R es n q t → Violated S Q es n q t
+  violated-over : {es : List Event} {n : ℕ} {q t : Option ℕ} {a : ℕ} → Violated S R es n q t a → Violated S Q es n q t a
   violated-over h = record { w = h .w; e = h .e; rest = h .rest; parts = h .parts; taken = h .taken; before = clear-over (h .before); finds = finds-over (h .finds) }
 
   refused-over : {es : List Event} {n i : ℕ} → Refused S R es n i → Refused S Q es n i
@@ -107,7 +113,7 @@ module _ (S : Sheet) (R Q : Leading) (f : (w : List Event) (k : Configuration) �
   published-over : {es : List Event} {r : Ending} → Published S R es r → Published S Q es r
   published-over h =
       record {
-        whenViolated = λ n q t. let (a, b) = h .whenViolated n q t in (λ e. violated-over S R Q f g (a e), λ x. b (violated-over S Q R g f x));
+        whenViolated = λ n q t m. let (a, b) = h .whenViolated n q t m in (λ e. violated-over S R Q f g (a e), λ x. b (violated-over S Q R g f x));
         whenRefused = λ n i. let (a, b) = h .whenRefused n i in (λ e. refused-over S R Q f g (a e), λ x. b (refused-over S Q R g f x));
         whenClean = λ n q k. let (a, b) = h .whenClean n q k in (λ e. clean-over S R Q f g (a e), λ x. b (clean-over S Q R g f x));
         read = h .read;

@@ -18,12 +18,13 @@ use Rattle.engine.specs.Runs.{endsIn}
 use Rattle.step.proofs.OnEvents.Runs.{offered-answer, turn-refused, turn-judged, turn-on}
 use Rattle.monitor.specs.Monitor.{State, fresh, refusal, offer, run}
 use Rattle.monitor.specs.Published.{inOrder}
-use Rattle.monitor.specs.Demand.{refusalAfter, Taken, Clear, Lowest, Finds, Violated, Clean, Refused, Published}
-use Rattle.monitor.proofs.Demand2.Traces.{Leads, begun, more}
+use Rattle.monitor.specs.Demand.{refusalAfter, Taken, Clear, Lowest, Finds, Violated, Clean, Refused, Published, Began}
+use Rattle.monitor.proofs.Demand2.Traces.{Leads, begun, more, snoc-same, last-one}
 use Rattle.monitor.proofs.Demand2.Calls.{holds, unjudged}
 use Rattle.monitor.proofs.Demand2.StillOpen.{count-open, refusal-after, leads-taken}
 use Rattle.monitor.proofs.Demand2.Broken.{Plain}
 use Rattle.monitor.proofs.Demand2.Found.{judged-finds, unjudged-none, taken-clear, clear-unjudged}
+use Rattle.step.proofs.OnLists.Lists.{none-some}
 
 -- the rest of a run, from a state on
 abbrev goingOn : Sheet → ℕ → State → List Event → Ran State
@@ -62,7 +63,7 @@ abbrev endingOf : Ran State → Ending
 endingOf r = ranAnswer endsIn r
 
 data Outcome (S : Sheet) (es : List Event) : Ending → Type 0 where
-  isViolated : {n : ℕ} {q t : Option ℕ} → Violated S (inOrder S) es n q t → Outcome S es (violated n q t)
+  isViolated : {n : ℕ} {q t : Option ℕ} {m : ℕ} → Violated S (inOrder S) es n q t m → Outcome S es (violated n q t m)
   isClean : {n q k : ℕ} → Clean S (inOrder S) es n q k → Outcome S es (clean n q k)
   isRefused : {n i : ℕ} → Refused S (inOrder S) es n i → Outcome S es (refusedAt n i)
 
@@ -119,22 +120,36 @@ module _ (S : Sheet) (plain : Plain S) where
       let q = k .broken j refl .1 i (h .broken i refl .0) in
       ap some (omega arith)
 
-  pub finds-same : (w : List Event) (n m : ℕ) (q p s t : Option ℕ) → Finds S (inOrder S) w n q s → Finds S (inOrder S) w m p t → violated n q s ≡ violated m p t
-  finds-same w n m q p s t h k =
+  began-same : (w : List Event) (s t : Option ℕ) (n m : ℕ) → s ≡ t → Began S (inOrder S) w s n → Began S (inOrder S) w t m → n ≡ m
+  began-same w none none n m e h k = h ∙ sym k
+  began-same w none (some j) n m e h k = absurd (none-some e)
+  began-same w (some i) none n m e h k = absurd (none-some (sym e))
+  began-same w (some i) (some j) n m e (b, h) (c, k) =
+      let split : (b .w₁ ++ b .entry ∷ b .w₂) ++ b .exit ∷ [] ≡ (c .w₁ ++ c .entry ∷ c .w₂) ++ c .exit ∷ []
+      = append-assoc (b .w₁) (b .entry ∷ b .w₂) (b .exit ∷ []) ∙ sym (b .parts) ∙ c .parts ∙ sym (append-assoc (c .w₁) (c .entry ∷ c .w₂) (c .exit ∷ [])) in
+      let (p, q) = snoc-same (b .w₁ ++ b .entry ∷ b .w₂) (c .w₁ ++ c .entry ∷ c .w₂) (b .exit) (c .exit) split in
+      let same : c .entry .number ≡ b .entry .number = sym (c .sameNumber) ∙ ap (λ (x : Event). x .number) (sym q) ∙ b .sameNumber in
+      let one = last-one S (b .entry .number) (b .w₁) (b .w₂) (c .w₁) (c .w₂) (b .entry) (c .entry) p refl same (b .apart) (rw same at (c .apart)) in
+      h ∙ ap (λ (x : ℕ). x + 1) one ∙ sym k
+
+  pub finds-same : (w : List Event) (n m : ℕ) (q p s t : Option ℕ) (a b : ℕ) → Finds S (inOrder S) w n q s a → Finds S (inOrder S) w m p t b → violated n q s a ≡ violated m p t b
+  finds-same w n m q p s t a b h k =
       let x : n ≡ m = h .counted ∙ sym (k .counted) in
       let y : q ≡ p = h .bad ∙ ap (λ (c : Configuration). badState (S .common .bad) (c .main)) (h .leads ∙ sym (k .leads)) ∙ sym (k .bad) in
       let z = lowest-same w s t (h .lowest) (k .lowest) in
-      λ i. violated (x i) (y i) (z i)
+      let u = began-same w s t a b z (h .began) (k .began) in
+      λ i. violated (x i) (y i) (z i) (u i)
 
   module _ (es : List Event) where
-    back-violated : (r : Ending) (n : ℕ) (q t : Option ℕ) → Outcome S es r → r ≡ violated n q t → Violated S (inOrder S) es n q t
-    back-violated r n q t (isViolated {n = m} {q = p} {t = s} x) e =
+    back-violated : (r : Ending) (n : ℕ) (q t : Option ℕ) (a : ℕ) → Outcome S es r → r ≡ violated n q t a → Violated S (inOrder S) es n q t a
+    back-violated r n q t a (isViolated {n = m} {q = p} {t = s} {m = b} x) e =
         let i : m ≡ n = cc in
         let j : p ≡ q = cc in
         let k : s ≡ t = cc in
-        rw (i, j, k) at x
-    back-violated r n q t (isClean x) e = let z : _≡_ {A = ℕ} 0 1 = cc in absurd (omega arith)
-    back-violated r n q t (isRefused x) e = let z : _≡_ {A = ℕ} 0 1 = cc in absurd (omega arith)
+        let l : b ≡ a = cc in
+        rw (i, j, k, l) at x
+    back-violated r n q t a (isClean x) e = let z : _≡_ {A = ℕ} 0 1 = cc in absurd (omega arith)
+    back-violated r n q t a (isRefused x) e = let z : _≡_ {A = ℕ} 0 1 = cc in absurd (omega arith)
 
     back-clean : (r : Ending) (n q k : ℕ) → Outcome S es r → r ≡ clean n q k → Clean S (inOrder S) es n q k
     back-clean r n q k (isViolated x) e = let z : _≡_ {A = ℕ} 0 1 = cc in absurd (omega arith)
@@ -158,18 +173,18 @@ module _ (S : Sheet) (plain : Plain S) where
     never-unread r n (isClean x) e = let z : _≡_ {A = ℕ} 0 1 = cc in omega arith
     never-unread r n (isRefused x) e = let z : _≡_ {A = ℕ} 0 1 = cc in omega arith
 
-    violated-run : (n : ℕ) (q t : Option ℕ) → Violated S (inOrder S) es n q t → endingOf (run S es) ≡ violated n q t
-    violated-run n q t h =
+    violated-run : (n : ℕ) (q t : Option ℕ) (a : ℕ) → Violated S (inOrder S) es n q t a → endingOf (run S es) ≡ violated n q t a
+    violated-run n q t a h =
         let first : Taken S (h .w) = λ u x v p. h .taken u x (v ++ h .e ∷ []) (ap (λ l. l ++ h .e ∷ []) p ∙ append-assoc u (x ∷ v) (h .e ∷ [])) in
         let (σ, l, u) = leading (h .w) first (h .before) in
         let free : refusal S σ (h .e) ≡ 0 = after S l u (h .e) ∙ h .taken (h .w) (h .e) [] refl in
         rw (h .parts) (ap endingOf (run-taken S l u (h .e ∷ h .rest)) ∙ judged σ l free (offer S σ (h .e) .state .verdict) refl)
       where
-        judged : (σ : State) → Leads S (h .w) σ → refusal S σ (h .e) ≡ 0 → (o : Option Verdict) → offer S σ (h .e) .state .verdict ≡ o → endingOf (goingOn S (suc (length (h .w))) σ (h .e ∷ h .rest)) ≡ violated n q t
+        judged : (σ : State) → Leads S (h .w) σ → refusal S σ (h .e) ≡ 0 → (o : Option Verdict) → offer S σ (h .e) .state .verdict ≡ o → endingOf (goingOn S (suc (length (h .w))) σ (h .e ∷ h .rest)) ≡ violated n q t a
         judged σ l f none p = absurd (unjudged-none S plain l (h .e) f p (h .finds .counterexample))
         judged σ l f (some v) p =
             ap endingOf (run-judged S (suc (length (h .w))) σ (h .e) (h .rest) f v p)
-            ∙ finds-same (h .w ++ h .e ∷ []) (v .position) n (causeState (v .cause)) q (causeTriple (v .cause)) t (judged-finds S plain l (h .e) f v p) (h .finds)
+            ∙ finds-same (h .w ++ h .e ∷ []) (v .position) n (causeState (v .cause)) q (causeTriple (v .cause)) t (v .entry) a (judged-finds S plain l (h .e) f v p) (h .finds)
 
     clean-run : (n q k : ℕ) → Clean S (inOrder S) es n q k → endingOf (run S es) ≡ clean n q k
     unfolding runFrom
@@ -193,7 +208,7 @@ module _ (S : Sheet) (plain : Plain S) where
   pub published : (es : List Event) → Published S (inOrder S) es (ranAnswer endsIn (run S es))
   published es =
       record {
-        whenViolated = λ n q t. (back-violated es (endingOf (run S es)) n q t (run-outcome es), violated-run es n q t);
+        whenViolated = λ n q t a. (back-violated es (endingOf (run S es)) n q t a (run-outcome es), violated-run es n q t a);
         whenRefused = λ n i. (back-refused es (endingOf (run S es)) n i (run-outcome es), refused-run es n i);
         whenClean = λ n q k. (back-clean es (endingOf (run S es)) n q k (run-outcome es), clean-run es n q k);
         read = λ n. never-unread es (endingOf (run S es)) n (run-outcome es);

@@ -3,7 +3,7 @@ use mathlib.Core.Path.{_≡_, refl, sym, _∙_, ap, ap₂}
 use mathlib.Core.Logic.{_⊎_, inl, inr}
 use mathlib.Core.Bool.{Bool, true, false, not, cond, _&&_}
 use mathlib.Core.List.{List, [], _∷_, _++_, map, append-nil, append-assoc}
-use Prim.Native.Nat.{ℕ, zero, suc, _≤_}
+use Prim.Native.Nat.{ℕ, zero, suc, _≤_, _+_}
 use native.Mathlib.Omega.{arith}
 use borrow.Author.Tests.{eqb-true, eqb-false, eq-eqb, ne-eqb}
 use lib.Dec.{eqb}
@@ -16,7 +16,7 @@ use Rattle.step.specs.Verdicts.{isJudged}
 use Rattle.step.specs.Moves.{Configuration}
 use Rattle.monitor.specs.Monitor.{Armed, State, initial, fresh, ofNumber, entered, exited, refusal}
 use Rattle.monitor.specs.Published.{shift, reached}
-use Rattle.monitor.specs.Demand.{staysOpen, stillOpen, openedBy, refusalAfter, Taken}
+use Rattle.monitor.specs.Demand.{staysOpen, stillOpen, openedBy, refusalAfter, Taken, openFrom}
 use Rattle.monitor.proofs.Demand2.Traces.{Leads, begun, more, stepped, opening, snoc-same, not-snoc, prefix-snoc}
 use Rattle.monitor.proofs.Demand2.Calls.{free, offer-taken, holds}
 
@@ -38,19 +38,19 @@ unfolding keep
 keep-all [] = refl
 keep-all (x ∷ l) = ap (λ k. x ∷ k) (keep-all l)
 
--- the calls that a trace leaves open, as a state holds them; the configuration is the one held before its first event
-unfoldable pub openings : Sheet → Configuration → List Event → List Armed
-openings S k [] = []
-openings S k (e ∷ w) = cond (staysOpen e w) (opening S k e ∷ openings S (stepped S k e) w) (openings S (stepped S k e) w)
+-- the calls that a trace leaves open, as a state holds them; the configuration is the one held before its first event, which stands at the position
+unfoldable pub openings : Sheet → Configuration → ℕ → List Event → List Armed
+openings S k p [] = []
+openings S k p (e ∷ w) = cond (staysOpen e w) (opening S k p e ∷ openings S (stepped S k e) (p + 1) w) (openings S (stepped S k e) (p + 1) w)
 
-pub openings-calls : (S : Sheet) (k : Configuration) (w : List Event) → map (λ (a : Armed). a .call) (openings S k w) ≡ map openedBy (stillOpen w)
-unfolding openings stillOpen
-openings-calls S k [] = refl
-openings-calls S k (e ∷ w) = go (staysOpen e w) (openings-calls S (stepped S k e) w)
+pub openings-calls : (S : Sheet) (k : Configuration) (p : ℕ) (w : List Event) → map (λ (a : Armed). a .call) (openings S k p w) ≡ openFrom p w
+unfolding openings openFrom
+openings-calls S k p [] = refl
+openings-calls S k p (e ∷ w) = go (staysOpen e w) (openings-calls S (stepped S k e) (p + 1) w)
   where
-    go : (b : Bool) → map (λ (a : Armed). a .call) (openings S (stepped S k e) w) ≡ map openedBy (stillOpen w)
-        → map (λ (a : Armed). a .call) (cond b (opening S k e ∷ openings S (stepped S k e) w) (openings S (stepped S k e) w)) ≡ map openedBy (cond b (e ∷ stillOpen w) (stillOpen w))
-    go true h = ap (λ l. openedBy e ∷ l) h
+    go : (b : Bool) → map (λ (a : Armed). a .call) (openings S (stepped S k e) (p + 1) w) ≡ openFrom (p + 1) w
+        → map (λ (a : Armed). a .call) (cond b (opening S k p e ∷ openings S (stepped S k e) (p + 1) w) (openings S (stepped S k e) (p + 1) w)) ≡ cond b (openedBy p e ∷ openFrom (p + 1) w) (openFrom (p + 1) w)
+    go true h = ap (λ l. openedBy p e ∷ l) h
     go false h = h
 
 -- With one event more an entry is open, and an exit leaves the calls of its number.
@@ -58,12 +58,12 @@ module _ (S : Sheet) (e : Event) where
   abbrev pub stays : Armed → Bool
   stays a = not (isExit e && eqb (a .call .number) (e .number))
 
-  abbrev pub last : Configuration → Bool → List Armed
-  last k b = cond b (opening S k e ∷ []) []
+  abbrev pub last : Configuration → ℕ → Bool → List Armed
+  last k p b = cond b (opening S k p e ∷ []) []
 
-  alone : (k : Configuration) (b : Bool) → cond (b && true) (opening S k e ∷ []) [] ≡ last k b
-  alone k true = refl
-  alone k false = refl
+  alone : (k : Configuration) (p q : ℕ) → p ≡ q → (b : Bool) → cond (b && true) (opening S k p e ∷ []) [] ≡ last k q b
+  alone k p q h true = ap (λ (n : ℕ). opening S k n e ∷ []) h
+  alone k p q h false = refl
 
   step : (x : Armed) (b a c : Bool) (k o t : List Armed) → keep stays o ≡ k → not c ≡ stays x → cond (b && not (cond a true (cond c true false))) (x ∷ (k ++ t)) (k ++ t) ≡ keep stays (cond (b && not a) (x ∷ o) o) ++ t
   unfolding keep
@@ -72,42 +72,45 @@ module _ (S : Sheet) (e : Event) where
   step x true false false k o t h s = rw (← s) (ap (λ l. x ∷ (l ++ t)) (sym h))
   step x false a c k o t h s = ap (λ l. l ++ t) (sym h)
 
-  pub openings-more : (w : List Event) (k : Configuration) → openings S k (w ++ e ∷ []) ≡ keep stays (openings S k w) ++ last (shift S k w) (isEntry e)
+  pub openings-more : (w : List Event) (k : Configuration) (p : ℕ) → openings S k p (w ++ e ∷ []) ≡ keep stays (openings S k p w) ++ last (shift S k w) (length w + p) (isEntry e)
   unfolding openings keep any shift
-  openings-more [] k = alone k (isEntry e)
-  openings-more (x ∷ w) k =
+  openings-more [] k p = alone k p (0 + p) (omega arith) (isEntry e)
+  openings-more (x ∷ w) k p =
       let left : Event → Bool = λ y. isExit y && eqb (x .number) (y .number) in
       let j = stepped S k x in
-      rw (any-more left w e, openings-more w j) (step (opening S k x) (isEntry x) (any left w) (left e) (keep stays (openings S j w)) (openings S j w) (last (shift S j w) (isEntry e)) refl refl)
+      let o = openings S j (p + 1) w in
+      rw (any-more left w e, openings-more w j (p + 1))
+      (step (opening S k p x) (isEntry x) (any left w) (left e) (keep stays o) o (last (shift S j w) (length w + (p + 1)) (isEntry e)) refl refl
+      ∙ ap (λ (q : ℕ). keep stays (cond (isEntry x && not (any left w)) (opening S k p x ∷ o) o) ++ last (shift S j w) q (isEntry e)) (omega arith))
 
-  calls-step : (w : List Event) (σ : State) (b : Bool) → isEntry e ≡ b → e .kind ≤ 1 → σ .configuration ≡ reached S w → σ .calls ≡ openings S (initial S) w
-      → cond b (entered S σ e) (exited S σ e) .calls ≡ openings S (initial S) (w ++ e ∷ [])
+  calls-step : (w : List Event) (σ : State) (b : Bool) → isEntry e ≡ b → e .kind ≤ 1 → σ .configuration ≡ reached S w → σ .position ≡ length w → σ .calls ≡ openings S (initial S) 1 w
+      → cond b (entered S σ e) (exited S σ e) .calls ≡ openings S (initial S) 1 (w ++ e ∷ [])
   unfolding entered exited
-  calls-step w σ true x k c h =
+  calls-step w σ true x k c p h =
       let entry = eqb-true (e .kind) 0 x in
       let no-exit : isExit e ≡ false = ne-eqb (e .kind) 1 (λ z. omega arith) in
-      let o = openings S (initial S) w in
+      let o = openings S (initial S) 1 w in
       let all : keep stays o ≡ o = ap (λ (b : Bool). keep (λ (a : Armed). not (b && eqb (a .call .number) (e .number))) o) no-exit ∙ keep-all o in
-      ap₂ (λ (l : List Armed) (j : Configuration). l ++ opening S j e ∷ []) (h ∙ sym all) c ∙ ap (λ (b : Bool). keep stays o ++ last (reached S w) b) (sym x) ∙ sym (openings-more w (initial S))
-  calls-step w σ false x k c h =
+      (λ i. (h ∙ sym all) i ++ opening S (c i) (p i + 1) e ∷ []) ∙ ap (λ (b : Bool). keep stays o ++ last (reached S w) (length w + 1) b) (sym x) ∙ sym (openings-more w (initial S) 1)
+  calls-step w σ false x k c p h =
       let some = eqb-false (e .kind) 0 x in
       let exit : isExit e ≡ true = eq-eqb (e .kind) 1 (one (e .kind) k some) in
-      let o = openings S (initial S) w in
+      let o = openings S (initial S) 1 w in
       let left : keep stays o ≡ keep (λ (a : Armed). not (ofNumber (e .number) a)) o = ap (λ (b : Bool). keep (λ (a : Armed). not (b && eqb (a .call .number) (e .number))) o) exit in
-      ap (keep (λ (a : Armed). not (ofNumber (e .number) a))) h ∙ sym left ∙ sym (append-nil (keep stays o)) ∙ ap (λ (b : Bool). keep stays o ++ last (reached S w) b) (sym x) ∙ sym (openings-more w (initial S))
+      ap (keep (λ (a : Armed). not (ofNumber (e .number) a))) h ∙ sym left ∙ sym (append-nil (keep stays o)) ∙ ap (λ (b : Bool). keep stays o ++ last (reached S w) (length w + 1) b) (sym x) ∙ sym (openings-more w (initial S) 1)
 
 module _ (S : Sheet) where
-  pub calls-are : {w : List Event} {σ : State} → Leads S w σ → σ .calls ≡ openings S (initial S) w
+  pub calls-are : {w : List Event} {σ : State} → Leads S w σ → σ .calls ≡ openings S (initial S) 1 w
   unfolding fresh openings
   calls-are begun = refl
-  calls-are (more {w} {σ} t e h) = rw (offer-taken S σ e h) (calls-step S e w σ (isEntry e) refl (free S σ e h .kind) (holds S t .configuration) (calls-are t))
+  calls-are (more {w} {σ} t e h) = rw (offer-taken S σ e h) (calls-step S e w σ (isEntry e) refl (free S σ e h .kind) (holds S t .configuration) (holds S t .position) (calls-are t))
 
-  pub calls-open : {w : List Event} {σ : State} → Leads S w σ → map (λ (a : Armed). a .call) (σ .calls) ≡ map openedBy (stillOpen w)
-  calls-open {w} t = ap (map (λ (a : Armed). a .call)) (calls-are t) ∙ openings-calls S (initial S) w
+  pub calls-open : {w : List Event} {σ : State} → Leads S w σ → map (λ (a : Armed). a .call) (σ .calls) ≡ stillOpen w
+  calls-open {w} t = ap (map (λ (a : Armed). a .call)) (calls-are t) ∙ openings-calls S (initial S) 1 w
 
   module _ {w : List Event} {σ : State} (t : Leads S w σ) where
     pub count-open : length (σ .calls) ≡ length (stillOpen w)
-    count-open = sym (length-map (σ .calls) (λ (a : Armed). a .call)) ∙ ap length (calls-open t) ∙ length-map (stillOpen w) openedBy
+    count-open = sym (length-map (σ .calls) (λ (a : Armed). a .call)) ∙ ap length (calls-open t)
 
     pub refusal-after : (e : Event) → refusal S σ e ≡ refusalAfter S (isJudged (σ .verdict)) w e
     unfolding refusal refusalAfter

@@ -2,7 +2,7 @@
 use mathlib.Core.Path.{_≡_, refl, sym}
 use mathlib.Core.Bool.{not, cond}
 use mathlib.Core.Option.{Option, none, some}
-use mathlib.Core.List.{List}
+use mathlib.Core.List.{List, map}
 use Prim.Native.Nat.{ℕ, _+_}
 use Rattle.sheet.specs.Bytes.{byte}
 use Rattle.sheet.specs.Parts.{Sheet}
@@ -11,7 +11,7 @@ use Rattle.sheet.specs.Reading.{reading, sheetLayout}
 use Rattle.sheet.specs.Log.{Event}
 use Rattle.step.specs.Lists.{first, keep}
 use Rattle.step.specs.Moves.{Configuration, moved}
-use Rattle.step.specs.Calls.{isEntry}
+use Rattle.step.specs.Calls.{isEntry, entryFor}
 use Rattle.step.specs.Verdicts.{verdict}
 use Rattle.step.specs.Runs.{offered, runFrom}
 use Rattle.step.specs.Answers.{ranOn}
@@ -39,7 +39,7 @@ unfolding Monitor.exited Machine.exited ofSheet
 exited-same S σ e =
     let to = moved (S .common) (S .transitions) (σ .configuration) e in
     let low = failing-same S (σ .configuration) e (first (Machine.ofNumber (e .number)) (σ .calls)) in
-    λ i. record { configuration = to; calls = keep (λ a. not (Machine.ofNumber (e .number) a)) (σ .calls); position = σ .position + 1; verdict = verdict (S .common .bad) (σ .position + 1) (to .main) (low i) }
+    λ i. record { configuration = to; calls = keep (λ a. not (Machine.ofNumber (e .number) a)) (σ .calls); position = σ .position + 1; verdict = verdict (S .common .bad) (σ .position + 1) (to .main) (low i) (entryFor (e .number) (map (λ a. a .call) (σ .calls))) }
 
 pub offer-same : (S : Sheet) (σ : Machine.State) (e : Event) → Monitor.offer S σ e ≡ Machine.offer (ofSheet S) σ e
 unfolding Monitor.offer Machine.offer

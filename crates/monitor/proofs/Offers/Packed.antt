@@ -8,7 +8,7 @@ use native.Mathlib.Omega.{arith}
 use borrow.Author.Tests.{lt-ltb, ltb-true}
 use lib.Dec.{eqb, ltb}
 use lib.ListN.{length, getD, set, take, drop, replicate, length-take}
-use lib.Seq.{take-at, take-all, take-suc, drop-append-add}
+use lib.Seq.{take-at, take-all, take-suc, drop-append-add, getD-append-seam}
 use Rattle.sheet.specs.Table.{every, fit}
 use Rattle.sheet.specs.Parts.{Sheet}
 use Rattle.sheet.specs.Log.{Event}
@@ -59,10 +59,11 @@ use Rattle.monitor.proofs.Offers.Machined.{offer-same}
 words-show : (P : ℕ) (c : Call) (a : Arms) → length (a .triples) ≡ 4 → length (c .kept) ≡ 8 → armedOf P (wordsOf c (toNumbers a)) ≡ unpadArmed P c a
 unfolding armedOf
 words-show P c a four eight =
-    let numbers : take 4 (a .triples ++ 0 ∷ c .kept) ≡ a .triples = take-at (a .triples) (0 ∷ c .kept) 4 four in
-    let rest : drop 5 (a .triples ++ 0 ∷ c .kept) ≡ c .kept = ap (λ (n : ℕ). drop (n + 1) (a .triples ++ 0 ∷ c .kept)) (sym four) ∙ drop-append-add (a .triples) (0 ∷ c .kept) 1 in
+    let numbers : take 4 (a .triples ++ c .entry ∷ c .kept) ≡ a .triples = take-at (a .triples) (c .entry ∷ c .kept) 4 four in
+    let rest : drop 5 (a .triples ++ c .entry ∷ c .kept) ≡ c .kept = ap (λ (n : ℕ). drop (n + 1) (a .triples ++ c .entry ∷ c .kept)) (sym four) ∙ drop-append-add (a .triples) (c .entry ∷ c .kept) 1 in
     let kept : take 8 (c .kept) ≡ c .kept = take-all 8 (c .kept) (omega arith) in
-    λ i. record { call = record { number = c .number; unit = c .unit; kept = take P ((ap (take 8) rest ∙ kept) i) }; armed = take (a .count) (numbers i) }
+    let entry : getD (a .triples ++ c .entry ∷ c .kept) 4 0 ≡ c .entry = ap (λ (n : ℕ). getD (a .triples ++ c .entry ∷ c .kept) n 0) (sym four) ∙ getD-append-seam (a .triples) (c .entry) (c .kept) 0 in
+    λ i. record { call = record { number = c .number; unit = c .unit; entry = entry i; kept = take P ((ap (take 8) rest ∙ kept) i) }; armed = take (a .count) (numbers i) }
 
 all-show : (P : ℕ) (l : List Call) (m : List Arms) → every (λ (c : Call). padded 8 P (c .kept)) l ≡ true → every tidyArms m ≡ true
     → map (armedOf P) (beside (λ c a. wordsOf c (toNumbers a)) l m) ≡ beside (unpadArmed P) l m
@@ -89,7 +90,7 @@ module _ (S : Sheet) where
   sound-steady : (σ : State) → sound S σ ≡ true → Steady (S .common) (length (S .triples)) σ
   unfolding sound
   sound-steady σ h =
-      let (m, (v, (f, (d, (k, w))))) = simp (and-iff, eqb-iff, leb-iff) at h in
+      let (m, (v, (f, (d, (e, (k, w)))))) = simp (and-iff, eqb-iff, leb-iff) at h in
       record {
         main = m;
         variables = v;

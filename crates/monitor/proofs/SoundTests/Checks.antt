@@ -16,7 +16,7 @@ use Rattle.sheet.specs.Reading.{reading, sheetLayout}
 use Rattle.sheet.proofs.Accepted.{Accepted, accepted, bounds}
 use Rattle.sheet.proofs.Tables.{and-assoc, length-records, every-same}
 use Rattle.step.specs.declared.Call.{Call}
-use Rattle.step.specs.Lists.{beside, distinct}
+use Rattle.step.specs.Lists.{beside, distinct, rising}
 use Rattle.step.specs.Verdicts.{verdictFits, verdictIn}
 use Rattle.step.proofs.OnLists.Rooms.{tidy-calls}
 use Rattle.step.specs.Padding.{clear, padded, isZeroCall}
@@ -24,11 +24,12 @@ use Rattle.monitor.specs.declared.Arms.{Arms}
 use Rattle.monitor.specs.declared.sound.Tables.{Tables}
 use Rattle.monitor.specs.declared.WatchState.{WatchState}
 use Rattle.monitor.specs.Monitor.{Armed, tripleIn}
-use Rattle.monitor.specs.Sound.{rising, ofOneState, callSound, verdictSound, sound}
+use Rattle.monitor.specs.Sound.{ofOneState, callSound, verdictSound, sound}
 use Rattle.monitor.specs.Padded.{unpadArmed, view, isZeroArms, tidyArms, tidy, soundState}
 use Rattle.monitor.specs.Walk.{tablesOf, tripleAt}
 use Rattle.monitor.proofs.SoundTests.Triples.{triple-there}
 use Rattle.monitor.proofs.States.Views.{length-beside, beside-left}
+use Rattle.step.specs.Calls.{entriesSound}
 
 -- what owning a row of structs tells of its length, for `search`
 pub length-mapped : (A B : Type 0) (f : A → B) (l : List A) (n : ℕ) → length (map f l) ≡ n → length l ≡ n
@@ -94,7 +95,7 @@ module _ (S : Sheet) (w : WatchState) (v : length (w .variables) ≡ 4) (long : 
   row = beside (unpadArmed (S .common .programs)) (take (w .opened) (w .calls)) (take (w .opened) (w .arms))
 
   sound-parts : S .common .monitors ≤ 4
-      → (ltb (w .main) (S .common .states) && ((distinct (map (λ (c : Call). c .number) (take (w .opened) (w .calls))) && every (callSound S) row) && verdictSound S (w .main) (w .position) (verdictIn (w .outcome))))
+      → (ltb (w .main) (S .common .states) && ((distinct (map (λ (c : Call). c .number) (take (w .opened) (w .calls))) && (entriesSound (w .position) (map (λ (c : Call). c .entry) (take (w .opened) (w .calls))) && every (callSound S) row)) && verdictSound S (w .main) (w .position) (verdictIn (w .outcome))))
       ≡ sound S (view S w)
   unfolding sound view
   sound-parts few =
@@ -106,7 +107,12 @@ module _ (S : Sheet) (w : WatchState) (v : length (w .variables) ≡ 4) (long : 
       let m : leb (length row) 16 ≡ true = le-leb (length row) 16 (omega (arith, g, e)) in
       let d : map (λ (a : Armed). a .call .number) row ≡ map (λ (c : Call). c .number) (take (w .opened) (w .calls)) =
       beside-left (unpadArmed (S .common .programs)) (λ (a : Armed). a .call .number) (λ (c : Call). c .number) (λ c a. refl) (take (w .opened) (w .calls)) (take (w .opened) (w .arms)) (omega arith) in
-      rw (k, m, d) (ap (λ (b : Bool). ltb (w .main) (S .common .states) && b) (and-assoc (distinct (map (λ (c : Call). c .number) (take (w .opened) (w .calls)))) (every (callSound S) row) (verdictSound S (w .main) (w .position) (verdictIn (w .outcome)))))
+      let i : map (λ (a : Armed). a .call .entry) row ≡ map (λ (c : Call). c .entry) (take (w .opened) (w .calls)) =
+      beside-left (unpadArmed (S .common .programs)) (λ (a : Armed). a .call .entry) (λ (c : Call). c .entry) (λ c a. refl) (take (w .opened) (w .calls)) (take (w .opened) (w .arms)) (omega arith) in
+      let apart = distinct (map (λ (c : Call). c .number) (take (w .opened) (w .calls))) in
+      let entered = entriesSound (w .position) (map (λ (c : Call). c .entry) (take (w .opened) (w .calls))) in
+      let judged = verdictSound S (w .main) (w .position) (verdictIn (w .outcome)) in
+      rw (k, m, d, i) (ap (λ (b : Bool). ltb (w .main) (S .common .states) && b) (and-assoc apart (entered && every (callSound S) row) judged ∙ ap (λ (b : Bool). apart && b) (and-assoc entered (every (callSound S) row) judged)))
 
 -- all tests of a state
 pub sound-is : (s : List ℕ) (t : Tables) → (reading sheetLayout s ≡ 0) × (t ≡ tablesOf s)
@@ -118,10 +124,11 @@ pub sound-is : (s : List ℕ) (t : Tables) → (reading sheetLayout s ≡ 0) × 
     → (b₄ : Bool) → b₄ ≡ every tidyArms (w .arms)
     → (b₅ : Bool) → b₅ ≡ every isZeroArms (drop o (w .arms))
     → (b₆ : Bool) → b₆ ≡ distinct (map (λ (c : Call). c .number) (take o (w .calls)))
+    → (b₉ : Bool) → b₉ ≡ entriesSound (w .position) (map (λ (c : Call). c .entry) (take o (w .calls)))
     → (b₇ : Bool) → b₇ ≡ every (callSound (sheetOf s)) (beside (unpadArmed (t .header .programs)) (take o (w .calls)) (take o (w .arms)))
     → (b₈ : Bool) → b₈ ≡ verdictFits (t .header .bad) (t .header .last) (w .main) (w .position) (verdictIn (w .outcome))
-    → (leb o 16 && ((b₁ && ((b₂ && b₃) && (b₄ && b₅))) && (ltb (w .main) (t .header .states) && ((b₆ && b₇) && b₈)))) ≡ soundState (sheetOf s) w
+    → (leb o 16 && ((b₁ && ((b₂ && b₃) && (b₄ && b₅))) && (ltb (w .main) (t .header .states) && ((b₆ && (b₉ && b₇)) && b₈)))) ≡ soundState (sheetOf s) w
 unfolding soundState sheetOf commonOf
-sound-is s t (h, e) w o (f, v, long, same) m (g, mm) p (k, pp) b₁ e₁ b₂ e₂ b₃ e₃ b₄ e₄ b₅ e₅ b₆ e₆ b₇ e₇ b₈ e₈ =
+sound-is s t (h, e) w o (f, v, long, same) m (g, mm) p (k, pp) b₁ e₁ b₂ e₂ b₃ e₃ b₄ e₄ b₅ e₅ b₆ e₆ b₉ e₉ b₇ e₇ b₈ e₈ =
     let a = accepted sheetLayout s h in
-    rw (← tidy-parts (sheetOf s) w v long same, ← sound-parts (sheetOf s) w v long same (bounds a .monitors), triples-in s, e₁, e₂, e₃, e₄, e₅, e₆, e₇, e₈, f, g, k, e)
+    rw (← tidy-parts (sheetOf s) w v long same, ← sound-parts (sheetOf s) w v long same (bounds a .monitors), triples-in s, e₁, e₂, e₃, e₄, e₅, e₆, e₉, e₇, e₈, f, g, k, e)

@@ -1,23 +1,20 @@
 -- Loops that test the first elements of two rows, or whether numbers rise, and what the tests of a sound state come to. Assumes nothing.
 use mathlib.Core.Path.{_≡_, refl, sym, ap, ap₂, _∙_}
-use mathlib.Core.Bool.{Bool, true, false, _&&_, false≢true}
+use mathlib.Core.Bool.{Bool, true, false, _&&_}
 use mathlib.Core.List.{List, [], _∷_}
-use Prim.Native.Nat.{ℕ, zero, suc, _+_, _-_, _*_, _≤_, _<_}
-use native.Mathlib.Numerals.{add-one, sub-one}
+use Prim.Native.Nat.{ℕ, zero, suc, _+_, _*_, _≤_, _<_}
 use native.Mathlib.Omega.{arith}
-use borrow.Author.Tests.{ltb-true, lt-ltb, le-ltb, eq-eqb}
+use borrow.Author.Tests.{eq-eqb}
 use lib.Dec.{eqb, leb, ltb}
-use lib.ListN.{length, getD, take, drop, length-take, length-drop}
-use lib.Seq.{drop-cons, getD-take}
+use lib.ListN.{length, getD, take, drop, length-take}
+use lib.Seq.{getD-take}
 use Rattle.sheet.specs.declared.Triple.{Triple}
 use Rattle.sheet.specs.Table.{every}
 use Rattle.sheet.specs.Decode.{tripleForm}
-use Rattle.sheet.proofs.Tables.{every-weaker}
 use Rattle.step.specs.Lists.{beside}
 use Rattle.step.specs.Padding.{clear}
 use Rattle.step.proofs.OnLists.Turns.{every-end, every-next, every-fails}
 use Rattle.monitor.specs.declared.Arms.{Arms}
-use Rattle.monitor.specs.Sound.{rising}
 use Rattle.monitor.specs.Padded.{tidyArms}
 use Rattle.monitor.specs.Walk.{tripleAt}
 use Rattle.monitor.proofs.States.Views.{length-beside}
@@ -78,58 +75,3 @@ one-state f (suc (suc n)) l h = absurd (omega arith)
 -- What is armed for a call, by its count and what stands behind it.
 pub tidy-is : (a : Arms) (w : ℕ) (r : Bool) → (w ≡ a .count) × (w < 256) → r ≡ clear w (a .triples) → length (a .triples) ≡ 4 → (leb w 4 && r) ≡ tidyArms a
 tidy-is a w r e f l = rw (f, e .0, eq-eqb (length (a .triples)) 4 l)
-
--- Numbers rise if each is below the next.
-pub rising-pair : (x y : ℕ) (l : List ℕ) → rising (x ∷ y ∷ l) ≡ (ltb x y && rising (y ∷ l))
-unfolding rising every
-rising-pair x y l = go (ltb x y) refl (every (ltb x) l) refl (every (ltb y) l) refl
-  where
-    go : (a : Bool) → ltb x y ≡ a → (b : Bool) → every (ltb x) l ≡ b → (c : Bool) → every (ltb y) l ≡ c → ((a && b) && (c && rising l)) ≡ (a && (c && rising l))
-    go false e b f c h = refl
-    go true e true f c h = refl
-    go true e false f false h = refl
-    go true e false f true h = absurd (false≢true (sym f ∙ every-weaker (ltb y) (ltb x) (λ z t. lt-ltb x z (omega (arith, ltb-true x y e, ltb-true y z t))) l h))
-
-rising-short : (l : List ℕ) → length l ≤ 1 → rising l ≡ true
-unfolding rising every
-rising-short [] h = refl
-rising-short (x ∷ []) h = refl
-rising-short (x ∷ y ∷ l) h = absurd (omega arith)
-
--- The first `n` of a row, tested up to the one before i.
-pub record Rising (row : List ℕ) (n i : ℕ) : Type 0 where
-  pub same : rising (drop (i - 1) (take n row)) ≡ rising (take n row)
-  pub low : 0 < i
-
-module _ (row : List ℕ) (n : ℕ) where
-  pub rising-start : Rising row n 1
-  rising-start = record { same = refl; low = omega arith }
-
-  module _ (i : ℕ) (g : Rising row n i) where
-    pub rising-end : n ≤ i → true ≡ rising (take n row)
-    rising-end h = sym (rising-short (drop (i - 1) (take n row)) (omega (arith, length-drop (i - 1) (take n row), length-take n row, g .low))) ∙ g .same
-
-    pub rising-far : length row ≤ i → true ≡ rising (take n row)
-    rising-far h = sym (rising-short (drop (i - 1) (take n row)) (omega (arith, length-drop (i - 1) (take n row), length-take n row, g .low))) ∙ g .same
-
-  rising-here : (j : ℕ) → suc j < n → suc j < length row → rising (drop j (take n row)) ≡ (ltb (getD row j 0) (getD row (suc j) 0) && rising (drop (suc j) (take n row)))
-  rising-here j h k =
-      let l = take n row in
-      let long = length-take n row in
-      let e = drop-cons l j 0 (omega arith) in
-      let f = drop-cons l (suc j) 0 (omega arith) in
-      ap rising (e ∙ ap (λ (m : List ℕ). getD l j 0 ∷ m) f) ∙ rising-pair (getD l j 0) (getD l (suc j) 0) (drop (suc (suc j)) l) ∙ rw (← f, getD-take n row j 0 (omega arith), getD-take n row (suc j) 0 h)
-
-  pub rising-next : (i : ℕ) → Rising row n i → i < n → i < length row → getD row (i - 1) 0 < getD row i 0 → Rising row n (i + 1)
-  rising-next zero g h k t = absurd (omega (arith, g .low))
-  rising-next (suc j) g h k t =
-      let s : rising (drop j (take n row)) ≡ rising (take n row) = rw (sub-one (suc j)) at (g .same) in
-      let u : getD row j 0 < getD row (suc j) 0 = rw (sub-one (suc j)) at t in
-      record { same = rw (add-one (suc j), sub-one (suc (suc j))) (rw (rising-here j h k, lt-ltb (getD row j 0) (getD row (suc j) 0) u) at s); low = omega arith }
-
-  pub rising-fails : (i : ℕ) → Rising row n i → i < n → i < length row → getD row i 0 ≤ getD row (i - 1) 0 → false ≡ rising (take n row)
-  rising-fails zero g h k t = absurd (omega (arith, g .low))
-  rising-fails (suc j) g h k t =
-      let s : rising (drop j (take n row)) ≡ rising (take n row) = rw (sub-one (suc j)) at (g .same) in
-      let u : getD row (suc j) 0 ≤ getD row j 0 = rw (sub-one (suc j)) at t in
-      rw (rising-here j h k, le-ltb (getD row j 0) (getD row (suc j) 0) u) at s

@@ -17,11 +17,11 @@ use Rattle.sheet.specs.Log.{Event}
 use Rattle.sheet.proofs.Accepted.{Accepted, sheet-together}
 use Rattle.sheet.proofs.Tables.{and-both}
 use Rattle.sheet.proofs.Tests.{and-iff, eqb-iff}
-use Rattle.step.specs.Lists.{Among, numbers}
+use Rattle.step.specs.Lists.{Among, numbers, rising}
 use Rattle.step.specs.Moves.{Configuration}
 use Rattle.step.proofs.OnLists.Keeping.{among-every}
 use Rattle.monitor.specs.Monitor.{arms, armedBy, tripleIn}
-use Rattle.monitor.specs.Sound.{rising, ofOneState}
+use Rattle.monitor.specs.Sound.{ofOneState}
 use Rattle.monitor.proofs.Demand2.Broken.{noTriple, armed-there}
 
 module _ {A : Type 0} (p : A → Bool) where

@@ -47,7 +47,7 @@ module _ (S : Sheet) where
   tidy-pad : (σ : State) → sound S σ ≡ true → tidy S (pad σ) ≡ true
   unfolding tidy pad sound clear every
   tidy-pad σ h =
-      let (m, (v, (c, (d, (k, rest))))) = simp (and-iff, eqb-iff) at h in
+      let (m, (v, (c, (d, (e, (k, rest)))))) = simp (and-iff, eqb-iff) at h in
       let calls = map (λ (a : Armed). padCall (a .call)) (σ .calls) in
       let arms = map (λ (a : Armed). padArms (a .armed)) (σ .calls) in
       and-both (padded-fit 4 (S .common .monitors) (σ .configuration .variables) v)

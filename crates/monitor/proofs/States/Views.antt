@@ -123,7 +123,7 @@ module _ (S : Sheet) where
   pub view-pad : (σ : State) → S .common .monitors ≤ 4 → S .common .programs ≤ 8 → sound S σ ≡ true → view S (pad σ) ≡ σ
   unfolding sound pad view
   view-pad σ few fewer h =
-      let (q, (n, (o, (d, (k, v))))) = simp and-iff at h in
+      let (q, (n, (o, (d, (e, (k, v)))))) = simp and-iff at h in
       let f : Armed → Call = λ a. padCall (a .call) in
       let g : Armed → Arms = λ a. padArms (a .armed) in
       let variables = take-fitted 0 4 (S .common .monitors) (σ .configuration .variables) (simp eqb-iff at n) few in

@@ -11,7 +11,7 @@ use Rattle.sheet.specs.Log.{Event}
 use Rattle.step.specs.Lists.{first, keep, least}
 use Rattle.step.specs.Meets.{meets}
 use Rattle.step.specs.Moves.{Configuration, seen, enabled, moved}
-use Rattle.step.specs.Calls.{Call, isEntry}
+use Rattle.step.specs.Calls.{Call, isEntry, entryFor}
 use Rattle.step.specs.Verdicts.{verdict}
 use Rattle.step.specs.Runs.{offered}
 use Rattle.step.proofs.OnLists.Keeping.{keep-map}
@@ -29,14 +29,14 @@ use Rattle.network.proofs.ByMachine.Apart.{Apart}
 use Rattle.network.proofs.ByMachine.Bound.{row-left, bound-first}
 
 -- the row with one call more, and the templates of a call's checkers
-row-more : (l : List Armed) (a : Armed) → rowOf (l ++ a ∷ []) ≡ rowOf l ++ map (checker (a .call .number)) (a .armed)
+row-more : (l : List Armed) (a : Armed) → rowOf (l ++ a ∷ []) ≡ rowOf l ++ map (checker (a .call .number) (a .call .entry)) (a .armed)
 unfolding rowOf
-row-more [] a = append-nil (map (checker (a .call .number)) (a .armed))
-row-more (x ∷ l) a = ap (λ (m : List Checker). map (checker (x .call .number)) (x .armed) ++ m) (row-more l a) ∙ sym (append-assoc (map (checker (x .call .number)) (x .armed)) (rowOf l) (map (checker (a .call .number)) (a .armed)))
+row-more [] a = append-nil (map (checker (a .call .number) (a .call .entry)) (a .armed))
+row-more (x ∷ l) a = ap (λ (m : List Checker). map (checker (x .call .number) (x .call .entry)) (x .armed) ++ m) (row-more l a) ∙ sym (append-assoc (map (checker (x .call .number) (x .call .entry)) (x .armed)) (rowOf l) (map (checker (a .call .number) (a .call .entry)) (a .armed)))
 
-pub templates-back : (m : ℕ) (l : List ℕ) → map (λ (h : Checker). h .template) (map (checker m) l) ≡ l
-templates-back m [] = refl
-templates-back m (i ∷ l) = ap (λ (r : List ℕ). i ∷ r) (templates-back m l)
+pub templates-back : (m q : ℕ) (l : List ℕ) → map (λ (h : Checker). h .template) (map (checker m q) l) ≡ l
+templates-back m q [] = refl
+templates-back m q (i ∷ l) = ap (λ (r : List ℕ). i ∷ r) (templates-back m q l)
 
 -- On a state of the machine; where an exit is judged, no two of its calls have one number.
 module _ (N : Network) (τ : Engine.State) (e : Event) where
@@ -47,9 +47,9 @@ module _ (N : Network) (τ : Engine.State) (e : Event) where
   k = τ .configuration
 
   -- what an entry creates is what it arms
-  created-armed : map (checker (e .number)) (ofNetwork N .arming (τ .configuration) e) ≡ created N (τ .configuration) e
+  created-armed : map (checker (e .number) (τ .position + 1)) (ofNetwork N .arming (τ .configuration) e) ≡ created N (τ .configuration) (τ .position + 1) e
   unfolding created ofNetwork
-  created-armed = map-map (checker (e .number)) (λ (p : Pair). p .template) (keep (λ (p : Pair). meets (N .common) (p .condition) (seen e k)) (pairsOf (first (λ (t : Paired). enabled (N .common) k e (t .base)) (N .transitions))))
+  created-armed = map-map (checker (e .number) (τ .position + 1)) (λ (p : Pair). p .template) (keep (λ (p : Pair). meets (N .common) (p .condition) (seen e k)) (pairsOf (first (λ (t : Paired). enabled (N .common) k e (t .base)) (N .transitions))))
 
   refusal-same : Network.refusal N (ungrouped τ) e ≡ Engine.refusal (ofNetwork N) τ e
   unfolding Network.refusal Engine.refusal ungrouped ofNetwork
@@ -58,20 +58,20 @@ module _ (N : Network) (τ : Engine.State) (e : Event) where
   entered-same : Network.entered N (ungrouped τ) e ≡ ungrouped (Engine.entered (ofNetwork N) τ e)
   unfolding Network.entered Engine.entered ungrouped ofNetwork
   entered-same =
-      let new : Armed = record { call = record { number = e .number; unit = e .unit; kept = e .values }; armed = M .arming k e } in
+      let new : Armed = record { call = record { number = e .number; unit = e .unit; entry = τ .position + 1; kept = e .values }; armed = M .arming k e } in
       let row = ap (λ (l : List Checker). rowOf (τ .calls) ++ l) (sym created-armed) ∙ sym (row-more (τ .calls) new) in
       let calls = sym (map-append (λ (a : Armed). a .call) (τ .calls) (new ∷ [])) in
       let to = moved (N .common) (bases N) k e in
-      λ i. record { configuration = to; calls = calls i; checkers = row i; position = τ .position + 1; verdict = verdict (N .common .bad) (τ .position + 1) (to .main) none }
+      λ i. record { configuration = to; calls = calls i; checkers = row i; position = τ .position + 1; verdict = verdict (N .common .bad) (τ .position + 1) (to .main) none 0 }
 
   pub answer-same : Network.offer N (ungrouped τ) e .answer ≡ Engine.offer (ofNetwork N) τ e .answer
   unfolding Network.offer Engine.offer
   answer-same = offered-answer _ _ _ ∙ refusal-same ∙ sym (offered-answer _ _ _)
 
   module _ (d : Apart τ) where
-    fails-same : (c : Call) (l : List ℕ) → keep (Network.fails N k e c) (map (checker (c .number)) l) ≡ map (checker (c .number)) (keep (Engine.fails M k e c) l)
+    fails-same : (c : Call) (l : List ℕ) → keep (Network.fails N k e c) (map (checker (c .number) (c .entry)) l) ≡ map (checker (c .number) (c .entry)) (keep (Engine.fails M k e c) l)
     unfolding Network.fails Engine.fails ofNetwork
-    fails-same c l = keep-map (Network.fails N k e c) (checker (c .number)) l
+    fails-same c l = keep-map (Network.fails N k e c) (checker (c .number) (c .entry)) l
 
     failing-call : (a : Armed) → first (Engine.ofNumber (e .number)) (τ .calls) ≡ some a → Network.failing N k e (rowOf (τ .calls)) (some (a .call)) ≡ Engine.failing M k e (some a)
     failing-call a h =
@@ -80,7 +80,7 @@ module _ (N : Network) (τ : Engine.State) (e : Event) where
         let own = bound-first (c .number) (τ .calls) d a (subst (λ (m : ℕ). first (Engine.ofNumber m) (τ .calls) ≡ some a) (sym same) h) in
         ap (λ (l : List Checker). least (map (λ (h : Checker). h .template) (keep (Network.fails N k e c) l))) own
         ∙ ap (λ (l : List Checker). least (map (λ (h : Checker). h .template) l)) (fails-same c (a .armed))
-        ∙ ap least (templates-back (c .number) (keep (Engine.fails M k e c) (a .armed)))
+        ∙ ap least (templates-back (c .number) (c .entry) (keep (Engine.fails M k e c) (a .armed)))
 
     failing-same : Network.failing N k e (rowOf (τ .calls)) (first (Network.ofNumber (e .number)) (map (λ (a : Armed). a .call) (τ .calls))) ≡ Engine.failing M k e (first (Engine.ofNumber (e .number)) (τ .calls))
     failing-same = ap (Network.failing N k e (rowOf (τ .calls))) (first-image (Network.ofNumber (e .number)) (λ (a : Armed). a .call) (τ .calls)) ∙ go (first (Engine.ofNumber (e .number)) (τ .calls)) refl
@@ -94,7 +94,7 @@ module _ (N : Network) (τ : Engine.State) (e : Event) where
     exited-same =
         let to = moved (N .common) (bases N) k e in
         let calls = keep-map (λ (c : Call). not (Network.ofNumber (e .number) c)) (λ (a : Armed). a .call) (τ .calls) in
-        let judged = ap (verdict (N .common .bad) (τ .position + 1) (to .main)) failing-same in
+        let judged = ap (λ (o : Option ℕ). verdict (N .common .bad) (τ .position + 1) (to .main) o (entryFor (e .number) (map (λ (a : Armed). a .call) (τ .calls)))) failing-same in
         λ i. record { configuration = to; calls = calls i; checkers = row-left (e .number) (τ .calls) i; position = τ .position + 1; verdict = judged i }
 
     pub state-same : Network.offer N (ungrouped τ) e .state ≡ ungrouped (Engine.offer (ofNetwork N) τ e .state)

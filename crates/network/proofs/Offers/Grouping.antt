@@ -1,6 +1,7 @@
 -- On a sound state the checkers are those of the calls, in the calls' order; with them it is a state of the machine. Assumes nothing.
 use mathlib.Core.Path.{_≡_, refl, sym, ap, ap₂, _∙_}
-use mathlib.Core.Bool.{Bool, true, false, not, cond, false≢true}
+use mathlib.Core.Logic.{inl, inr}
+use mathlib.Core.Bool.{Bool, true, false, not, cond, _&&_, false≢true}
 use mathlib.Core.List.{List, [], _∷_, _++_, map, map-map}
 use Prim.Native.Nat.{ℕ, suc, _≤_}
 use native.Mathlib.Omega.{arith}
@@ -14,14 +15,13 @@ use Rattle.sheet.proofs.Tests.{and-iff, not-iff, leb-iff, eqb-iff}
 use Rattle.step.specs.Lists.{Among, keep, any, distinct, placeOf}
 use Rattle.step.specs.Calls.{Call}
 use Rattle.step.proofs.OnLists.Lists.{keep-none, any-map, kept-passes}
-use Rattle.step.proofs.OnLists.Keeping.{every-among, among-every, every-keep}
+use Rattle.step.proofs.OnLists.Keeping.{every-among, among-every, every-keep, any-weaker}
 use Rattle.engine.specs.Machine.{Armed}
 use Rattle.engine.specs.Showing.{Steady}
 use Rattle.network.specs.declared.Checker.{Checker}
 use Rattle.network.specs.Network as Network
 use Rattle.network.specs.Network.{boundTo, ofNumber}
-use Rattle.network.specs.Sound.{callSound, onCall, fourACall, neverFalls, inOrder, sound}
-use Rattle.network.proofs.States.Living.{on-open}
+use Rattle.network.specs.Sound.{callSound, onCall, entryOfCall, fourACall, neverFalls, inOrder, sound}
 use Rattle.network.proofs.States.Ordering.{images-same, never-keep}
 use Rattle.network.specs.Grouped.{checker, rowOf, ungrouped, templatesOf, groupedCalls, grouped}
 
@@ -62,17 +62,17 @@ module _ {A : Type 0} (p : A → Bool) (f : A → ℕ) (above : (x : A) → p x 
           let none = none-above (f x) l (below x e) b in
           rw (keep-none p l none) (ap (λ (m : List A). x ∷ m) (all-kept l none))
 
--- a checker of a number, from its template
-own-back : (n : ℕ) (l : List Checker) → map (checker n) (templatesOf n l) ≡ keep (boundTo n) l
+-- a checker of a number, from its template, where all of that number carry one position
+own-back : (n q : ℕ) (l : List Checker) → ((h : Checker) → Among h l → eqb (h .number) n ≡ true → h .entry ≡ q) → map (checker n q) (templatesOf n l) ≡ keep (boundTo n) l
 unfolding keep
-own-back n [] = refl
-own-back n (h ∷ l) = go (eqb (h .number) n) refl (own-back n l)
+own-back n q [] f = refl
+own-back n q (h ∷ l) f = go (eqb (h .number) n) refl (own-back n q l (λ x m. f x (inr m)))
   where
-    go : (b : Bool) → eqb (h .number) n ≡ b → map (checker n) (templatesOf n l) ≡ keep (boundTo n) l
-        → map (checker n) (map (λ (x : Checker). x .template) (cond b (h ∷ keep (boundTo n) l) (keep (boundTo n) l))) ≡ cond b (h ∷ keep (boundTo n) l) (keep (boundTo n) l)
+    go : (b : Bool) → eqb (h .number) n ≡ b → map (checker n q) (templatesOf n l) ≡ keep (boundTo n) l
+        → map (checker n q) (map (λ (x : Checker). x .template) (cond b (h ∷ keep (boundTo n) l) (keep (boundTo n) l))) ≡ cond b (h ∷ keep (boundTo n) l) (keep (boundTo n) l)
     go true e k =
         let same = eqb-true (h .number) n e in
-        λ i. checker (sym same i) (h .template) ∷ k i
+        λ i. checker (sym same i) (sym (f h (inl refl) e) i) (h .template) ∷ k i
     go false e k = k
 
 -- the checkers of other numbers are not those of one
@@ -116,13 +116,25 @@ flip : (m n : ℕ) (b : Bool) → eqb m n ≡ b → eqb n m ≡ b
 flip m n true e = eq-eqb n m (sym (eqb-true m n e))
 flip m n false e = ne-eqb n m (λ h. eqb-false m n e (sym h))
 
-open-other : (n m : ℕ) (b : Bool) → eqb n m ≡ false → cond (eqb n m) true b ≡ true → b ≡ true
-open-other n m b e h = rw e at h
+-- A checker carries the position of its call's entry: that of the first call, where this is its call and no other has its number, or else that of one behind it.
+module _ (c : Call) (calls : List Call) (h : Checker) (k : entryOfCall (c ∷ calls) h ≡ true) where
+  carried-here : any (λ (x : Call). eqb (c .number) (x .number)) calls ≡ false → eqb (h .number) (c .number) ≡ true → h .entry ≡ c .entry
+  unfolding entryOfCall any
+  carried-here apart e = go (eqb (c .entry) (h .entry)) refl (rw (flip (h .number) (c .number) true e) at k)
+    where
+      go : (b : Bool) → eqb (c .entry) (h .entry) ≡ b → cond b true (entryOfCall calls h) ≡ true → h .entry ≡ c .entry
+      go true f k = sym (eqb-true (c .entry) (h .entry) f)
+      go false f k =
+          absurd (false≢true (sym apart ∙ any-weaker (λ (x : Call). eqb (c .number) (x .number)) (λ (x : Call). eqb (x .number) (h .number) && eqb (x .entry) (h .entry))
+          (λ x t. eq-eqb (c .number) (x .number) (sym (eqb-true (h .number) (c .number) e) ∙ sym (eqb-true (x .number) (h .number) (and-parts (eqb (x .number) (h .number)) _ t .0)))) calls k))
+
+  carried-behind : eqb (c .number) (h .number) ≡ false → entryOfCall calls h ≡ true
+  unfolding entryOfCall any
+  carried-behind e = rw e at k
 
 -- The row of the calls with their checkers is the row of checkers.
-pub row-grouped : (calls : List Call) (l : List Checker) → distinct (map (λ (c : Call). c .number) calls) ≡ true → every (λ (h : Checker). any (ofNumber (h .number)) calls) l ≡ true → inOrder calls l ≡ true
-    → rowOf (groupedCalls calls l) ≡ l
-unfolding rowOf every any distinct inOrder placeOf
+pub row-grouped : (calls : List Call) (l : List Checker) → distinct (map (λ (c : Call). c .number) calls) ≡ true → every (entryOfCall calls) l ≡ true → inOrder calls l ≡ true → rowOf (groupedCalls calls l) ≡ l
+unfolding rowOf every any distinct inOrder placeOf entryOfCall
 row-grouped [] [] d o i = refl
 row-grouped [] (h ∷ l) d o i = absurd (false≢true o)
 row-grouped (c ∷ calls) l d o i =
@@ -133,13 +145,12 @@ row-grouped (c ∷ calls) l d o i =
     let (a, b) = simp (and-iff, not-iff) at d in
     let apart : any (λ (x : Call). eqb n (x .number)) calls ≡ false = sym (any-map (eqb n) (λ (x : Call). x .number) calls) ∙ a in
     let other : (h : Checker) → Among h (keep q l) → eqb n (h .number) ≡ false = λ h m. flip (h .number) n false (not-true (eqb (h .number) n) (kept-passes q l h m .1)) in
-    let on : every (λ (h : Checker). any (ofNumber (h .number)) calls) (keep q l) ≡ true =
-    among-every (λ (h : Checker). any (ofNumber (h .number)) calls) (keep q l) (λ h m. open-other n (h .number) (any (ofNumber (h .number)) calls) (other h m) (every-among (λ (h : Checker). any (ofNumber (h .number)) (c ∷ calls)) l h o (kept-passes q l h m .0))) in
+    let on : every (entryOfCall calls) (keep q l) ≡ true = among-every (entryOfCall calls) (keep q l) (λ h m. carried-behind c calls h (every-among (entryOfCall (c ∷ calls)) l h o (kept-passes q l h m .0)) (other h m)) in
     let places : map f (keep q l) ≡ map suc (map g (keep q l)) = images-same f (λ h. suc (g h)) (keep q l) (λ h m. rw (other h m)) ∙ sym (map-map suc g (keep q l)) in
     let order : inOrder calls (keep q l) ≡ true = never-down (map g (keep q l)) (ap (neverFalls 0) (sym places) ∙ never-keep f q 0 l i) in
     let rest = row-grouped calls (keep q l) b on order in
     let whole = parted (boundTo n) f (λ h e. rw (flip (h .number) n true e)) (λ h e. rw (flip (h .number) n false e) (omega arith)) 0 l i in
-    ap₂ (λ (x y : List Checker). x ++ y) (own-back n l) (ap rowOf (sym (without n calls l apart)) ∙ rest) ∙ whole
+    ap₂ (λ (x y : List Checker). x ++ y) (own-back n (c .entry) l (λ h m. carried-here c calls h (every-among (entryOfCall (c ∷ calls)) l h o m) apart)) (ap rowOf (sym (without n calls l apart)) ∙ rest) ∙ whole
 
 pub calls-back : (calls : List Call) (l : List Checker) → map (λ (a : Armed). a .call) (groupedCalls calls l) ≡ calls
 calls-back [] l = refl
@@ -149,9 +160,8 @@ calls-back (c ∷ calls) l = ap (λ (m : List Call). c ∷ m) (calls-back calls 
 pub ungrouped-grouped : (N : Network) (σ : Network.State) → sound N σ ≡ true → ungrouped (grouped σ) ≡ σ
 unfolding sound grouped ungrouped
 ungrouped-grouped N σ h =
-    let (m, (v, (c, (d, (k, ((o, (f, i)), w)))))) = simp and-iff at h in
-    let on = every-weaker (onCall N (σ .calls)) (λ (x : Checker). any (ofNumber (x .number)) (σ .calls)) (on-open N (σ .calls)) (σ .checkers) o in
-    let row = row-grouped (σ .calls) (σ .checkers) d on i in
+    let (m, (v, (c, (d, (n, (k, ((o, (q, (f, i))), w))))))) = simp and-iff at h in
+    let row = row-grouped (σ .calls) (σ .checkers) d q i in
     let calls = calls-back (σ .calls) (σ .checkers) in
     λ j. record { configuration = σ .configuration; calls = calls j; checkers = row j; position = σ .position; verdict = σ .verdict }
 
@@ -163,7 +173,7 @@ module _ (N : Network) (σ : Network.State) (h : sound N σ ≡ true) where
   pub grouped-few : every (λ (a : Armed). leb (length (a .armed)) 4) (groupedCalls (σ .calls) (σ .checkers)) ≡ true
   unfolding sound fourACall
   grouped-few =
-      let (m, (v, (f, (d, (k, ((o, (g, i)), w)))))) = simp and-iff at h in
+      let (m, (v, (f, (d, (n, (k, ((o, (q, (g, i))), w))))))) = simp and-iff at h in
       every-map (λ (a : Armed). leb (length (a .armed)) 4) of (σ .calls)
       ∙ every-weaker (λ (c : Call). leb (length (keep (boundTo (c .number)) (σ .checkers))) 4) (λ (c : Call). leb (length (templatesOf (c .number) (σ .checkers))) 4) (λ c t. rw (length-map (keep (boundTo (c .number)) (σ .checkers)) (λ (x : Checker). x .template)) t) (σ .calls) g
 
@@ -181,7 +191,7 @@ module _ (N : Network) (σ : Network.State) (h : sound N σ ≡ true) where
   pub grouped-steady : Steady (N .common) (length (N .templates)) (grouped σ)
   unfolding sound grouped
   grouped-steady =
-      let (m, (v, (f, (d, (k, ((o, (g, i)), w)))))) = simp (and-iff, leb-iff, eqb-iff) at h in
+      let (m, (v, (f, (d, (p, (k, ((o, (q, (g, i))), w))))))) = simp (and-iff, leb-iff, eqb-iff) at h in
       record {
         main = m;
         variables = v;

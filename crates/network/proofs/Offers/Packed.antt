@@ -8,7 +8,7 @@ use native.Mathlib.Omega.{arith}
 use borrow.Author.Tests.{lt-ltb, ltb-true, leb-true, eq-eqb}
 use lib.Dec.{eqb, leb, ltb}
 use lib.ListN.{length, getD, take, drop, length-map, length-take}
-use lib.Seq.{take-at, take-all, drop-append-add}
+use lib.Seq.{take-at, take-all, getD-at, drop-append-add}
 use Rattle.sheet.specs.Table.{every, fit}
 use Rattle.sheet.specs.Parts.{Network, Common}
 use Rattle.sheet.specs.declared.Record.{Record}
@@ -64,12 +64,13 @@ use Rattle.network.proofs.Offers.Grouping.{ungrouped-grouped, grouped-f
 words-show : (P : ℕ) (c : Call) (l : List ℕ) → length l ≤ 4 → length (c .kept) ≡ 8 → armedOf P (wordsOf c (armsOf l)) ≡ record { call = unpad P c; armed = l }
 unfolding armedOf
 words-show P c l few eight =
-    let row = fit 4 0 l ++ 0 ∷ c .kept in
+    let row = fit 4 0 l ++ c .entry ∷ c .kept in
     let four = length-fit 4 0 l in
-    let armed : take (length l) (take 4 row) ≡ l = ap (take (length l)) (take-at (fit 4 0 l) (0 ∷ c .kept) 4 four) ∙ take-fit 0 4 l few in
-    let rest : drop 5 row ≡ c .kept = ap (λ (n : ℕ). drop (n + 1) row) (sym four) ∙ drop-append-add (fit 4 0 l) (0 ∷ c .kept) 1 in
+    let armed : take (length l) (take 4 row) ≡ l = ap (take (length l)) (take-at (fit 4 0 l) (c .entry ∷ c .kept) 4 four) ∙ take-fit 0 4 l few in
+    let rest : drop 5 row ≡ c .kept = ap (λ (n : ℕ). drop (n + 1) row) (sym four) ∙ drop-append-add (fit 4 0 l) (c .entry ∷ c .kept) 1 in
     let kept : take 8 (drop 5 row) ≡ c .kept = ap (take 8) rest ∙ take-all 8 (c .kept) (omega arith) in
-    λ i. record { call = record { number = c .number; unit = c .unit; kept = take P (kept i) }; armed = armed i }
+    let entry : getD row 4 0 ≡ c .entry = getD-at (fit 4 0 l) (c .entry) (c .kept) 0 4 four in
+    λ i. record { call = record { number = c .number; unit = c .unit; entry = entry i; kept = take P (kept i) }; armed = armed i }
 
 -- A call's checkers, at the front of a row that has no others of its number.
 front-none : {A : Type 0} (p : A → Bool) (k : ℕ) (l : List A) → keep p l ≡ [] → front p k l ≡ []
@@ -82,19 +83,19 @@ front-none {A} p (suc k) (x ∷ l) h = go (p x) h
     go true h = absurd (omega (arith, ap length h))
     go false h = refl
 
-module _ (n : ℕ) (m : List Checker) (other : keep (boundTo n) m ≡ []) where
-  front-own : (k : ℕ) (l : List ℕ) → length l ≤ k → front (boundTo n) k (map (checker n) l ++ m) ≡ map (checker n) l
+module _ (n q : ℕ) (m : List Checker) (other : keep (boundTo n) m ≡ []) where
+  front-own : (k : ℕ) (l : List ℕ) → length l ≤ k → front (boundTo n) k (map (checker n q) l ++ m) ≡ map (checker n q) l
   unfolding front
   front-own k [] h = front-none (boundTo n) k m other
   front-own zero (i ∷ l) h = absurd (omega arith)
-  front-own (suc k) (i ∷ l) h = rw (eq-eqb n n refl) (ap (λ (r : List Checker). checker n i ∷ r) (front-own k l (omega arith)))
+  front-own (suc k) (i ∷ l) h = rw (eq-eqb n n refl) (ap (λ (r : List Checker). checker n q i ∷ r) (front-own k l (omega arith)))
 
-  own-front : (l : List ℕ) → length l ≤ 4 → ownOf n (map (checker n) l ++ m) ≡ l
-  own-front l h = ap (map (λ (x : Checker). x .template)) (front-own 4 l h) ∙ templates-back n l
+  own-front : (l : List ℕ) → length l ≤ 4 → ownOf n (map (checker n q) l ++ m) ≡ l
+  own-front l h = ap (map (λ (x : Checker). x .template)) (front-own 4 l h) ∙ templates-back n q l
 
-own-behind : (n : ℕ) (l : List ℕ) (m : List Checker) → drop (length l) (map (checker n) l ++ m) ≡ m
-own-behind n [] m = refl
-own-behind n (i ∷ l) m = own-behind n l m
+own-behind : (n q : ℕ) (l : List ℕ) (m : List Checker) → drop (length l) (map (checker n q) l ++ m) ≡ m
+own-behind n q [] m = refl
+own-behind n q (i ∷ l) m = own-behind n q l m
 
 -- The words of calls whose checkers follow each other show these calls with their checkers.
 calls-show : (P : ℕ) (calls : List Call) (l : List Armed) → map (unpad P) calls ≡ map (λ (a : Armed). a .call) l → distinct (map (λ (a : Armed). a .call .number) l) ≡ true
@@ -110,8 +111,8 @@ calls-show P (c ∷ calls) (a ∷ l) e d f k =
     let (few, fewer) = and-parts (leb (length (a .armed)) 4) (every (λ (a : Armed). leb (length (a .armed)) 4) l) f in
     let ((eight, z), r) = simp (and-iff, eqb-iff) at k in
     let none = bound-none n l (turned n l (sym (any-map (eqb n) (λ (a : Armed). a .call .number) l) ∙ shut)) in
-    let own : ownOf (c .number) (rowOf (a ∷ l)) ≡ a .armed = ap (λ (x : Calls.Call). ownOf (x .number) (rowOf (a ∷ l))) same ∙ own-front n (rowOf l) none (a .armed) (leb-true (length (a .armed)) 4 few) in
-    let rest : map (armedOf P) (wordsIn calls (drop (length (a .armed)) (rowOf (a ∷ l)))) ≡ l = ap (λ (m : List Checker). map (armedOf P) (wordsIn calls m)) (own-behind n (a .armed) (rowOf l)) ∙ calls-show P calls l (ap (drop 1) e) apart fewer r in
+    let own : ownOf (c .number) (rowOf (a ∷ l)) ≡ a .armed = ap (λ (x : Calls.Call). ownOf (x .number) (rowOf (a ∷ l))) same ∙ own-front n (a .call .entry) (rowOf l) none (a .armed) (leb-true (length (a .armed)) 4 few) in
+    let rest : map (armedOf P) (wordsIn calls (drop (length (a .armed)) (rowOf (a ∷ l)))) ≡ l = ap (λ (m : List Checker). map (armedOf P) (wordsIn calls m)) (own-behind n (a .call .entry) (a .armed) (rowOf l)) ∙ calls-show P calls l (ap (drop 1) e) apart fewer r in
     ap (λ (o : List ℕ). armedOf P (wordsOf c (armsOf o)) ∷ map (armedOf P) (wordsIn calls (drop (length o) (rowOf (a ∷ l))))) own
     ∙ ap₂ (λ (x : Armed) (t : List Armed). x ∷ t) (words-show P c (a .armed) (leb-true (length (a .armed)) 4 few) eight ∙ (λ i. record { call = same i; armed = a .armed })) rest
 
@@ -154,7 +155,7 @@ checkers-out P (w ∷ ws) h =
     let few : length l ≤ 4 = omega (arith, length-take (getD w 2 0) (take 4 (drop 3 w)), length-take 4 (drop 3 w)) in
     let armed : take (length l) (fit 4 0 (map (λ i. i % 256) l)) ≡ l = ap (λ (m : List ℕ). take (length l) (fit 4 0 m)) bytes ∙ take-fit 0 4 l few in
     let number : getD w 0 0 % 65536 ≡ getD w 0 0 = mod-eq-of-lt (ltb-true (getD w 0 0) 65536 n) in
-    λ i. map (checker (number i)) (armed i) ++ checkers-out P ws rest i
+    λ i. map (checker (number i) (getD w 7 0)) (armed i) ++ checkers-out P ws rest i
 
 unpacked-pad : (C : Common) (σ : Words) (τ : Machine.State) → shownBy C σ ≡ τ → every narrow (τ .calls) ≡ true → unpacked (C .programs) (C .monitors) σ ≡ pad (ungrouped τ)
 unfolding unpacked pad shownBy ungrouped

@@ -41,11 +41,12 @@ map-replicate f zero x = refl
 map-replicate {B} f (suc n) x = ap (λ (m : List B). f x ∷ m) (map-replicate f n x)
 
 -- A checker in a word comes out again.
-pub word-back : (w n i number template : ℕ) → w ≡ 256 * number + template → (number ≡ n) × (number < 65536) → (template ≡ i) × (template < 256) → checkerIn w ≡ checker n i
-word-back w n i number template e (en, hn) (ei, hi) =
-    let high : w / 256 % 65536 ≡ n = omega arith in
+pub word-back : (w n q i number entry template : ℕ) → w ≡ 16777216 * entry + (256 * number + template) → (entry ≡ q) × (entry < 4294967296) → (number ≡ n) × (number < 65536) → (template ≡ i) × (template < 256) → checkerIn w ≡ checker n q i
+word-back w n q i number entry template e (eq, hq) (en, hn) (ei, hi) =
+    let high : w / 16777216 % 4294967296 ≡ q = omega arith in
+    let middle : w / 256 % 65536 ≡ n = omega arith in
     let low : w % 256 ≡ i = omega arith in
-    λ j. record { number = high j; template = low j }
+    λ j. record { number = middle j; template = low j; entry = high j }
 
 -- The loop that makes words of checkers: those of the first i are made.
 pub record Wording (checkers : List Checker) (living : ℕ) (out : List ℕ) (i : ℕ) : Type 0 where
@@ -218,32 +219,32 @@ module _ (calls : List Call) (l : List Checker) (opened : ℕ) (row : List ℕ) 
         }
 
 -- The loop that puts the words of checkers behind those of a row: i of them are there.
-pub record Appending (number living count : ℕ) (numbers before out : List ℕ) (i : ℕ) : Type 0 where
-  pub same : sets (map checkerIn out) (living + i) (map (checker number) (drop i (take count numbers))) ≡ sets (map checkerIn before) living (map (checker number) (take count numbers))
+pub record Appending (number entry living count : ℕ) (numbers before out : List ℕ) (i : ℕ) : Type 0 where
+  pub same : sets (map checkerIn out) (living + i) (map (checker number entry) (drop i (take count numbers))) ≡ sets (map checkerIn before) living (map (checker number entry) (take count numbers))
   pub low : i ≤ count
 
-module _ (number living count : ℕ) (numbers before : List ℕ) where
-  pub appending-start : Appending number living count numbers before before 0
-  appending-start = record { same = ap (λ (k : ℕ). sets (map checkerIn before) k (map (checker number) (take count numbers))) {x = living + 0} {y = living} (omega arith); low = omega arith }
+module _ (number entry living count : ℕ) (numbers before : List ℕ) where
+  pub appending-start : Appending number entry living count numbers before before 0
+  appending-start = record { same = ap (λ (k : ℕ). sets (map checkerIn before) k (map (checker number entry) (take count numbers))) {x = living + 0} {y = living} (omega arith); low = omega arith }
 
-  module _ (out : List ℕ) (i : ℕ) (g : Appending number living count numbers before out i) where
-    pub appending-next : i < count → i < length numbers → (w : ℕ) → checkerIn w ≡ checker number (getD numbers i 0) → Appending number living count numbers before (set out (living + i) w) (i + 1)
+  module _ (out : List ℕ) (i : ℕ) (g : Appending number entry living count numbers before out i) where
+    pub appending-next : i < count → i < length numbers → (w : ℕ) → checkerIn w ≡ checker number entry (getD numbers i 0) → Appending number entry living count numbers before (set out (living + i) w) (i + 1)
     appending-next h k w e =
-        let x = checker number (getD numbers i 0) in
-        let rest = map (checker number) (drop (i + 1) (take count numbers)) in
+        let x = checker number entry (getD numbers i 0) in
+        let rest = map (checker number entry) (drop (i + 1) (take count numbers)) in
         let next : drop i (take count numbers) ≡ getD numbers i 0 ∷ drop (i + 1) (take count numbers)
         = rw (add-one i) (drop-cons (take count numbers) i 0 (omega (arith, length-take count numbers)) ∙ ap (λ (y : ℕ). y ∷ drop (suc i) (take count numbers)) (getD-take count numbers i 0 h)) in
         let put : map checkerIn (set out (living + i) w) ≡ set (map checkerIn out) (living + i) x = map-set checkerIn out (living + i) w ∙ ap (set (map checkerIn out) (living + i)) e in
         record {
-          same = ap (λ (o : List Checker). sets o (living + (i + 1)) rest) put ∙ ap (λ (k : ℕ). sets (set (map checkerIn out) (living + i) x) k rest) {x = living + (i + 1)} {y = suc (living + i)} (omega arith) ∙ ap (λ (m : List ℕ). sets (map checkerIn out) (living + i) (map (checker number) m)) (sym next) ∙ g .same;
+          same = ap (λ (o : List Checker). sets o (living + (i + 1)) rest) put ∙ ap (λ (k : ℕ). sets (set (map checkerIn out) (living + i) x) k rest) {x = living + (i + 1)} {y = suc (living + i)} (omega arith) ∙ ap (λ (m : List ℕ). sets (map checkerIn out) (living + i) (map (checker number entry) m)) (sym next) ∙ g .same;
           low = omega arith;
         }
 
-    pub appending-end : count ≤ i → count ≤ length numbers → (n : ℕ) → count ≡ n → (map checkerIn out ≡ sets (map checkerIn before) living (map (checker number) (take n numbers))) × (living + count ≡ living + length (take n numbers))
+    pub appending-end : count ≤ i → count ≤ length numbers → (n : ℕ) → count ≡ n → (map checkerIn out ≡ sets (map checkerIn before) living (map (checker number entry) (take n numbers))) × (living + count ≡ living + length (take n numbers))
     appending-end h k n en =
         let none : drop i (take count numbers) ≡ [] = none-left numbers count i h in
-        let all : map checkerIn out ≡ sets (map checkerIn before) living (map (checker number) (take count numbers)) = rw none at (g .same) in
-        subst (λ (m : ℕ). (map checkerIn out ≡ sets (map checkerIn before) living (map (checker number) (take m numbers))) × (living + count ≡ living + length (take m numbers))) en (all, omega (arith, length-take-le count numbers k))
+        let all : map checkerIn out ≡ sets (map checkerIn before) living (map (checker number entry) (take count numbers)) = rw none at (g .same) in
+        subst (λ (m : ℕ). (map checkerIn out ≡ sets (map checkerIn before) living (map (checker number entry) (take m numbers))) × (living + count ≡ living + length (take m numbers))) en (all, omega (arith, length-take-le count numbers k))
 
 -- The loop that unpacks: i calls are out of it, with their checkers.
 pub record Unpacking (row : List ℕ) (programs opened : ℕ) (calls : List Call) (held : List ℕ) (living i : ℕ) : Type 0 where
@@ -270,7 +271,7 @@ module _ (row : List ℕ) (programs opened : ℕ) (calls : List Call) (held : Li
   unpacking-start e f = record { out = e; behind = ap (map checkerIn) f ∙ map-replicate checkerIn 64 0 ∙ filling-start 64 zeroChecker [] .all; count = refl; near = omega arith; low = omega arith }
 
   pub unpacking-next : (living i : ℕ) → Unpacking row programs opened calls held living i → i < opened → opened ≤ 16 → (c : Call) → c ≡ callAt row i programs → (a : Arms) → a ≡ armsAt row i
-      → (after : List ℕ) (lives : ℕ) → (map checkerIn after ≡ sets (map checkerIn held) living (map (checker (c .number)) (take (a .count) (a .numbers)))) × (lives ≡ living + length (take (a .count) (a .numbers)))
+      → (after : List ℕ) (lives : ℕ) → (map checkerIn after ≡ sets (map checkerIn held) living (map (checker (c .number) (c .entry)) (take (a .count) (a .numbers)))) × (lives ≡ living + length (take (a .count) (a .numbers)))
       → Unpacking row programs opened (set calls i c) after lives (i + 1)
   unpacking-next living i g h few c ec a ea after lives e =
       let w = take 16 (drop (16 * i) row) in
@@ -278,13 +279,13 @@ module _ (row : List ℕ) (programs opened : ℕ) (calls : List Call) (held : Li
       let call : c ≡ callIn programs w = ec ∙ call-words row i (omega arith) programs in
       let arms : a ≡ armsIn w = ea ∙ arms-words row i (omega arith) in
       let own = checkersFor (callIn 0 w) (armsIn w) in
-      let m = map (checker (c .number)) (take (a .count) (a .numbers)) in
-      let new : m ≡ own = (λ j. map (checker (call j .number)) (take (arms j .count) (arms j .numbers))) in
+      let m = map (checker (c .number) (c .entry)) (take (a .count) (a .numbers)) in
+      let new : m ≡ own = (λ j. map (checker (call j .number) (call j .entry)) (take (arms j .count) (arms j .numbers))) in
       let all : checkersIn (entries (i + 1) row) ≡ l ++ own = rw (add-one i) (ap checkersIn (entries-more i row) ∙ checkers-more (entries i row) w) in
       record {
         out = out-more (callIn programs) zeroCall row i calls c (g .out) call;
         behind = e .0 ∙ (λ j. sets (g .behind j) (g .count j) (new j)) ∙ sets-more zeroChecker 64 l own ∙ ap (fit 64 zeroChecker) (sym all);
-        count = omega (arith, e .1, g .count, length-map (take (a .count) (a .numbers)) (checker (c .number)), ap length new, length-append l own, ap length all);
+        count = omega (arith, e .1, g .count, length-map (take (a .count) (a .numbers)) (checker (c .number) (c .entry)), ap length new, length-append l own, ap length all);
         near = omega (arith, g .near, e .1, length-take (a .count) (a .numbers), arms-few row i (omega arith) a ea);
         low = omega arith;
       }

@@ -27,7 +27,7 @@ use Rattle.step.proofs.OnLists.Turns.{any-append}
 use Rattle.step.proofs.OnLists.Keeping.{every-among, among-every, among-at, length-keep}
 use Rattle.network.specs.declared.Checker.{Checker}
 use Rattle.network.specs.Network.{templateIn, pairsIn, created, boundTo, ofNumber}
-use Rattle.network.specs.Sound.{onCall, fourACall, inOrder, checkersSound}
+use Rattle.network.specs.Sound.{onCall, entryOfCall, fourACall, inOrder, checkersSound}
 use Rattle.network.proofs.States.Living.{on-open}
 use Rattle.network.proofs.States.Ordering.{among-image, order-more}
 
@@ -37,13 +37,14 @@ noPaired = record { base = transitionOf []; pairs = [] }
 noPair : Pair
 noPair = record { condition = 0; template = 0 }
 
--- a checker that is bound to an event's call, of a template of its unit
-pub record Bound (s : List ℕ) (e : Event) (h : Checker) : Type 0 where
+-- a checker that is bound to an event's call, which is entered at a position, of a template of its unit
+pub record Bound (s : List ℕ) (position : ℕ) (e : Event) (h : Checker) : Type 0 where
   pub number : h .number ≡ e .number
+  pub entry : h .entry ≡ position
   pub template : h .template < length (networkOf s .templates)
   pub unit : templateIn (networkOf s) (h .template) .unit ≡ e .unit
 
-module _ {s : List ℕ} (a : Accepted networkLayout s) (k : Configuration) (e : Event) where
+module _ {s : List ℕ} (a : Accepted networkLayout s) (k : Configuration) (position : ℕ) (e : Event) where
   abbrev takes : Paired → Bool
   takes t = enabled (commonOf s) k e (t .base)
 
@@ -51,9 +52,9 @@ module _ {s : List ℕ} (a : Accepted networkLayout s) (k : Configuration) (e : 
   starts p = meets (commonOf s) (p .condition) (seen e k)
 
   abbrev ofPair : Pair → Checker
-  ofPair p = record { number = e .number; template = p .template }
+  ofPair p = record { number = e .number; template = p .template; entry = position }
 
-  pub created-few : length (created (networkOf s) k e) ≤ 4
+  pub created-few : length (created (networkOf s) k position e) ≤ 4
   unfolding created networkOf keep
   created-few = go (first takes (transitionsOf networkLayout s)) refl
     where
@@ -64,11 +65,11 @@ module _ {s : List ℕ} (a : Accepted networkLayout s) (k : Configuration) (e : 
           let few : length (t .pairs) ≤ 4 = rw x at (network-pairs a i noPaired j) in
           omega (arith, length-map (keep starts (t .pairs)) ofPair, length-keep starts (t .pairs))
 
-  pub created-bound : (h : Checker) → Among h (created (networkOf s) k e) → Bound s e h
+  pub created-bound : (h : Checker) → Among h (created (networkOf s) k position e) → Bound s position e h
   unfolding created networkOf keep enabled
   created-bound h m = go (first takes (transitionsOf networkLayout s)) refl m
     where
-      go : (o : Option Paired) → first takes (transitionsOf networkLayout s) ≡ o → Among h (map ofPair (keep starts (pairsIn o))) → Bound s e h
+      go : (o : Option Paired) → first takes (transitionsOf networkLayout s) ≡ o → Among h (map ofPair (keep starts (pairsIn o))) → Bound s position e h
       go none f m = absurd m
       go (some t) f m =
           let ts = transitionsOf networkLayout s in
@@ -78,7 +79,7 @@ module _ {s : List ℕ} (a : Accepted networkLayout s) (k : Configuration) (e : 
           let (u, v, w) = among-at noPair (t .pairs) p (kept-passes starts (t .pairs) p b .0) in
           let g = rw (x, w) at (network-pair a i noPaired j u noPair (rw x v)) in
           let (q, (r, (z, n))) = simp (and-iff, eqb-iff) at d in
-          record { number = ap (λ (h : Checker). h .number) y; template = rw y (g .template); unit = rw y (g .unit ∙ z) }
+          record { number = ap (λ (h : Checker). h .number) y; entry = ap (λ (h : Checker). h .entry) y; template = rw y (g .template); unit = rw y (g .unit ∙ z) }
 
 -- What no element passes, each fails; what each fails, none is kept by; and one more that passes is enough.
 module _ {A : Type 0} (p : A → Bool) where
@@ -104,6 +105,13 @@ module _ {A : Type 0} (p : A → Bool) where
       go : (b : Bool) → cond b true true ≡ true
       go true = refl
       go false = refl
+
+-- With a call more behind theirs, and its checkers, checkers still carry their calls' positions.
+carried-more : (calls : List Call) (c : Call) (l m : List Checker) → every (entryOfCall calls) l ≡ true → every (entryOfCall (calls ++ c ∷ [])) m ≡ true → every (entryOfCall (calls ++ c ∷ [])) (l ++ m) ≡ true
+unfolding entryOfCall
+carried-more calls c l m o h =
+    every-append (entryOfCall (calls ++ c ∷ [])) l m
+    ∙ and-both (every-weaker (entryOfCall calls) (entryOfCall (calls ++ c ∷ [])) (λ x t. any-append (λ (d : Call). eqb (d .number) (x .number) && eqb (d .entry) (x .entry)) calls (c ∷ []) ∙ rw t) l o) h
 
 -- A call that comes last, of a number that is not open, with its checkers.
 module _ (N : Network) (calls : List Call) (c : Call) (l m : List Checker) (z : any (ofNumber (c .number)) calls ≡ false) (o : every (onCall N calls) l ≡ true) where
@@ -142,17 +150,22 @@ module _ (N : Network) (calls : List Call) (c : Call) (l m : List Checker) (z : 
         let new : four (l ++ m) c ≡ true = rw (keep-append (boundTo (c .number)) l m, old-apart) (le-leb (length (keep (boundTo (c .number)) m)) 4 (omega (arith, length-keep (boundTo (c .number)) m))) in
         every-append (four (l ++ m)) calls (c ∷ []) ∙ and-both old (and-both new refl)
 
-pub created-sound : {s : List ℕ} → Accepted networkLayout s → (k : Configuration) (e : Event) (calls : List Call) (c : Call) (l : List Checker) → c .number ≡ e .number → c .unit ≡ e .unit
-    → any (ofNumber (e .number)) calls ≡ false → every (onCall (networkOf s) calls) l ≡ true → fourACall calls l ≡ true → inOrder calls l ≡ true → checkersSound (networkOf s) (calls ++ c ∷ []) (l ++ created (networkOf s) k e) ≡ true
-unfolding onCall
-created-sound {s} a k e calls c l n u z o f i =
+pub created-sound : {s : List ℕ} → Accepted networkLayout s → (k : Configuration) (position : ℕ) (e : Event) (calls : List Call) (c : Call) (l : List Checker) → c .number ≡ e .number → c .unit ≡ e .unit → c .entry ≡ position
+    → any (ofNumber (e .number)) calls ≡ false → every (onCall (networkOf s) calls) l ≡ true → every (entryOfCall calls) l ≡ true → fourACall calls l ≡ true → inOrder calls l ≡ true
+    → checkersSound (networkOf s) (calls ++ c ∷ []) (l ++ created (networkOf s) k position e) ≡ true
+unfolding onCall entryOfCall
+created-sound {s} a k position e calls c l n u q z o p f i =
     let N = networkOf s in
-    let m = created N k e in
+    let m = created N k position e in
     let shut : any (ofNumber (c .number)) calls ≡ false = rw n z in
-    let b : every (boundTo (c .number)) m ≡ true = among-every (boundTo (c .number)) m (λ x j. eq-eqb (x .number) (c .number) (created-bound a k e x j .number ∙ sym n)) in
+    let b : every (boundTo (c .number)) m ≡ true = among-every (boundTo (c .number)) m (λ x j. eq-eqb (x .number) (c .number) (created-bound a k position e x j .number ∙ sym n)) in
     let on : every (onCall N (calls ++ c ∷ [])) m ≡ true = among-every (onCall N (calls ++ c ∷ [])) m (λ x j.
-    let g = created-bound a k e x j in
+    let g = created-bound a k position e x j in
     and-both (lt-ltb (x .template) (length (N .templates)) (g .template)) (any-last (λ (d : Call). eqb (d .number) (x .number) && eqb (d .unit) (templateIn N (x .template) .unit)) calls c
     (and-both (eq-eqb (c .number) (x .number) (n ∙ sym (g .number))) (eq-eqb (c .unit) (templateIn N (x .template) .unit) (u ∙ sym (g .unit)))))) in
+    let carried : every (entryOfCall (calls ++ c ∷ [])) m ≡ true = among-every (entryOfCall (calls ++ c ∷ [])) m (λ x j.
+    let g = created-bound a k position e x j in
+    any-last (λ (d : Call). eqb (d .number) (x .number) && eqb (d .entry) (x .entry)) calls c (and-both (eq-eqb (c .number) (x .number) (n ∙ sym (g .number))) (eq-eqb (c .entry) (x .entry) (q ∙ sym (g .entry))))) in
     and-both (on-more N calls c l m shut o on)
-    (and-both (four-more N calls c l m shut o b (created-few a k e) f) (order-more calls c l m i (open-all N calls c l m shut o) shut b))
+    (and-both (carried-more calls c l m p carried)
+    (and-both (four-more N calls c l m shut o b (created-few a k position e) f) (order-more calls c l m i (open-all N calls c l m shut o) shut b)))

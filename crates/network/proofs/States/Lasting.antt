@@ -46,7 +46,7 @@ module _ {s : List ℕ} (a : Accepted networkLayout s) (σ : State) (h : sound (
   unfolding tidy pad sound clear every
   tidy-pad =
       let N = networkOf s in
-      let (m, (v, (c, (d, (k, rest))))) = simp (and-iff, eqb-iff) at h in
+      let (m, (v, (c, (d, (n, (k, rest)))))) = simp (and-iff, eqb-iff) at h in
       let calls = map padCall (σ .calls) in
       let many : length calls ≡ length (σ .calls) = length-map (σ .calls) padCall in
       and-both (padded-fit 4 (N .common .monitors) (σ .configuration .variables) v)

@@ -82,6 +82,6 @@ on-open N calls h e =
 pub checkers-few : (N : Network) (σ : State) → sound N σ ≡ true → length (σ .checkers) ≤ 64
 unfolding sound
 checkers-few N σ h =
-    let (m, (v, (c, (d, (k, ((o, (f, i)), w)))))) = simp (and-iff, leb-iff) at h in
+    let (m, (v, (c, (d, (n, (k, ((o, (q, (f, i))), w))))))) = simp (and-iff, leb-iff) at h in
     let on = every-weaker (onCall N (σ .calls)) (λ (x : Checker). any (λ (c : Call). eqb (c .number) (x .number)) (σ .calls)) (on-open N (σ .calls)) (σ .checkers) o in
     omega (arith, living-few (σ .calls) (σ .checkers) on f)

@@ -25,8 +25,8 @@ use Rattle.network.proofs.States.Living.{checkers-few}
 
 zero-checker : (h : Checker) → isZeroChecker h ≡ true → h ≡ zeroChecker
 zero-checker h e =
-    let (n, t) = simp and-iff at e in
-    λ i. record { number = is-zero (h .number) n i; template = is-zero (h .template) t i }
+    let (n, (t, a)) = simp and-iff at e in
+    λ i. record { number = is-zero (h .number) n i; template = is-zero (h .template) t i; entry = is-zero (h .entry) a i }
 
 module _ (N : Network) where
   -- a sound state is the padded form of what it shows
@@ -55,7 +55,7 @@ module _ (N : Network) where
   unfolding sound pad view
   view-pad σ few fewer room h =
       let P = N .common .programs in
-      let (q, (n, (o, (d, (k, w))))) = simp and-iff at h in
+      let (q, (n, (o, (d, (p, (k, w)))))) = simp and-iff at h in
       let variables = take-fitted 0 4 (N .common .monitors) (σ .configuration .variables) (simp eqb-iff at n) few in
       let kept = every-weaker (callSound N) (λ (c : Call). eqb (length (c .kept)) P) keeps-all (σ .calls) k in
       let calls = rows-out P (σ .calls) fewer kept (simp leb-iff at o) in

@@ -1,11 +1,11 @@
 -- What a transition leaves: a state below Q, as many variables as before, and a sound verdict; and how the operations take one. Assumes nothing.
 use mathlib.Core.Path.{_≡_, refl, sym, subst, _∙_}
-use mathlib.Core.Bool.{Bool, true, false, cond}
+use mathlib.Core.Bool.{Bool, true, false, cond, _&&_}
 use mathlib.Core.Option.{Option, none, some}
 use mathlib.Core.List.{List, [], _∷_, map}
 use Prim.Native.Nat.{ℕ, _<_}
 use borrow.Author.Tests.{eq-eqb}
-use lib.Dec.{ltb}
+use lib.Dec.{leb, ltb}
 use lib.ListN.{length, getD, length-set, length-map, List·getD-map}
 use Rattle.condition.specs.Tree.{Assignment}
 use Rattle.condition.specs.Parse.{parseAction}
@@ -19,7 +19,7 @@ use Rattle.sheet.proofs.Accepted.{Accepted, GoodTransition, sheet-transition, n
 use Rattle.step.specs.Lists.{Among, first}
 use Rattle.step.specs.Meets.{acted, performedBy}
 use Rattle.step.specs.Moves.{Configuration, seen, enabled, after, moved}
-use Rattle.step.specs.Verdicts.{causeOf, placed, verdict, ifThere, verdictFits}
+use Rattle.step.specs.Verdicts.{causeOf, placed, carried, verdict, ifThere, verdictFits}
 use Rattle.step.proofs.OnLists.Lists.{first-passes}
 use Rattle.step.proofs.OnLists.Keeping.{among-at}
 use Rattle.step.proofs.OnEvents.Bridge.{noTransition, noPaired}
@@ -64,11 +64,12 @@ module _ (C : Common) (ts : List Transition) where
       go none = refl
       go (some t) = length-acted (parseAction (lentIn C) (getD (C .actions) (t .action) [])) (seen e k)
 
--- The verdict that an event brings, from a triple that exists.
-pub verdict-fits : (bad n main position : ℕ) (t : Option ℕ) → ifThere t (λ i. ltb i n) ≡ true → verdictFits bad n main position (verdict bad position main t) ≡ true
-verdict-fits bad n main position t h = go (isBad bad main) refl t h
+-- The verdict that an event brings, from a triple that exists and a call that was entered before it.
+pub verdict-fits : (bad n main position entry : ℕ) (t : Option ℕ) → ifThere t (λ i. ltb i n && (leb 1 entry && ltb entry position)) ≡ true → verdictFits bad n main position (verdict bad position main t entry) ≡ true
+verdict-fits bad n main position entry t h = go (isBad bad main) refl t h
   where
-    go : (b : Bool) → isBad bad main ≡ b → (o : Option ℕ) → ifThere o (λ i. ltb i n) ≡ true → verdictFits bad n main position (placed position (causeOf (cond b (some main) none) o)) ≡ true
+    go : (b : Bool) → isBad bad main ≡ b → (o : Option ℕ) → ifThere o (λ i. ltb i n && (leb 1 entry && ltb entry position)) ≡ true
+        → verdictFits bad n main position (placed position (carried o entry) (causeOf (cond b (some main) none) o)) ≡ true
     go true e none k = rw (e, eq-eqb position position refl, eq-eqb main main refl)
     go true e (some i) k = rw (e, k, eq-eqb position position refl, eq-eqb main main refl)
     go false e none k = rw e

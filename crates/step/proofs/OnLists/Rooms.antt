@@ -216,14 +216,14 @@ pub pad-call : (P : ℕ) (c : Call) → padded 8 P (c .kept) ≡ true → padCal
 pad-call P c h =
     let (k, z) = simp and-iff at h in
     let e = fit-padded 8 P (c .kept) k z in
-    λ i. record { number = c .number; unit = c .unit; kept = e i }
+    λ i. record { number = c .number; unit = c .unit; entry = c .entry; kept = e i }
 
 pub zero-call : (P : ℕ) (c : Call) → (padded 8 P (c .kept) && isZeroCall c) ≡ true → c ≡ zeroCall
 unfolding fit
 zero-call P c h =
-    let ((k, b), (n, (u, z))) = simp and-iff at h in
+    let ((k, b), (n, (u, (a, z)))) = simp and-iff at h in
     let e = fit-padded 8 0 (c .kept) k z in
-    λ i. record { number = is-zero (c .number) n i; unit = is-zero (c .unit) u i; kept = sym e i }
+    λ i. record { number = is-zero (c .number) n i; unit = is-zero (c .unit) u i; entry = is-zero (c .entry) a i; kept = sym e i }
 
 -- Rows of calls: what stands in one goes in again, and what goes in comes out again.
 module _ (P : ℕ) where
@@ -238,7 +238,7 @@ module _ (P : ℕ) where
   pub call-back : P ≤ 8 → (c : Calls.Call) → eqb (length (c .kept)) P ≡ true → unpad P (padCall c) ≡ c
   call-back few c h =
       let kept = take-fitted 0 8 P (c .kept) (simp eqb-iff at h) few in
-      λ i. record { number = c .number; unit = c .unit; kept = kept i }
+      λ i. record { number = c .number; unit = c .unit; entry = c .entry; kept = kept i }
 
   pub rows-out : (l : List Calls.Call) → P ≤ 8 → every (λ (c : Calls.Call). eqb (length (c .kept)) P) l ≡ true → length l ≤ 16
       → map (unpad P) (take (length l) (fit 16 zeroCall (map padCall l))) ≡ l
@@ -254,29 +254,37 @@ exchanged true false true d = refl
 exchanged true false false d = refl
 exchanged false b c d = refl
 
+-- two tests on every element
+pub every-and : {A : Type 0} (p q : A → Bool) (l : List A) → every (λ x. p x && q x) l ≡ (every p l && every q l)
+unfolding every
+every-and p q [] = refl
+every-and p q (x ∷ l) = ap (λ (b : Bool). (p x && q x) && b) (every-and p q l) ∙ exchanged (p x) (q x) (every p l) (every q l)
+
 never : (b : Bool) → (b && false) ≡ false
 never true = refl
 never false = refl
 
+nowhere : (n u a : Bool) → (n && (u && (a && false))) ≡ false
+nowhere true true true = refl
+nowhere true true false = refl
+nowhere true false a = refl
+nowhere false u a = refl
+
 no-call : (P : ℕ) (c : Call) → (padded 8 0 (c .kept) && isZeroCall c) ≡ (padded 8 P (c .kept) && isZeroCall c)
 unfolding clear
-no-call P c = go (eqb (length (c .kept)) 8) (eqb (c .number) 0) (eqb (c .unit) 0) (every (λ x. eqb x 0) (c .kept)) refl
+no-call P c = go (eqb (length (c .kept)) 8) (eqb (c .number) 0) (eqb (c .unit) 0) (eqb (c .entry) 0) (every (λ x. eqb x 0) (c .kept)) refl
   where
-    go : (l n u b : Bool) → every (λ x. eqb x 0) (c .kept) ≡ b → ((l && b) && (n && (u && b))) ≡ ((l && every (λ x. eqb x 0) (drop P (c .kept))) && (n && (u && b)))
-    go l n u true e = rw (every-drop (λ x. eqb x 0) P (c .kept) e)
-    go false n u false e = refl
-    go true true true false e = sym (never (every (λ x. eqb x 0) (drop P (c .kept))))
-    go true true false false e = sym (never (every (λ x. eqb x 0) (drop P (c .kept))))
-    go true false u false e = sym (never (every (λ x. eqb x 0) (drop P (c .kept))))
+    go : (l n u a b : Bool) → every (λ x. eqb x 0) (c .kept) ≡ b → ((l && b) && (n && (u && (a && b)))) ≡ ((l && every (λ x. eqb x 0) (drop P (c .kept))) && (n && (u && (a && b))))
+    go l n u a true e = rw (every-drop (λ x. eqb x 0) P (c .kept) e)
+    go false n u a false e = refl
+    go true n u a false e = rw (nowhere n u a) (sym (never (every (λ x. eqb x 0) (drop P (c .kept)))))
 
 pub no-call-is : (c : Call) (r b : Bool) → (r ≡ isZeroCall c) × (length (c .kept) ≡ 8) → r ≡ b → (padded 8 0 (c .kept) && isZeroCall c) ≡ b
-no-call-is c r b f e = rw (f .1) (go (eqb (c .number) 0) (eqb (c .unit) 0) (clear 0 (c .kept)) ∙ sym (f .0) ∙ e)
+no-call-is c r b f e = rw (f .1) (go (eqb (c .number) 0) (eqb (c .unit) 0) (eqb (c .entry) 0) (clear 0 (c .kept)) ∙ sym (f .0) ∙ e)
   where
-    go : (n u z : Bool) → ((eqb 8 8 && z) && (n && (u && z))) ≡ (n && (u && z))
-    go n u true = refl
-    go true true false = refl
-    go true false false = refl
-    go false u false = refl
+    go : (n u a z : Bool) → ((eqb 8 8 && z) && (n && (u && (a && z)))) ≡ (n && (u && (a && z)))
+    go n u a true = refl
+    go n u a false = sym (nowhere n u a)
 
 pub tidy-calls : (P n : ℕ) (l : List Call) → (every (λ (c : Call). padded 8 P (c .kept)) (take n l) && every (λ (c : Call). padded 8 0 (c .kept) && isZeroCall c) (drop n l)) ≡ (every (λ (c : Call). padded 8 P (c .kept)) l && every isZeroCall (drop n l))
 unfolding every

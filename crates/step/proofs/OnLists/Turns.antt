@@ -124,7 +124,7 @@ module _ {A : Type 0} (f : A → ℕ) (row : List A) (opened i : ℕ) (g : disti
         distinct-fails f (take opened row) i g d there (found true (lt-ltb place i (omega arith)))
 
 -- by the numbers alone
-take-map : {A B : Type 0} (n : ℕ) (f : A → B) (l : List A) → take n (map f l) ≡ map f (take n l)
+pub take-map : {A B : Type 0} (n : ℕ) (f : A → B) (l : List A) → take n (map f l) ≡ map f (take n l)
 take-map zero f l = refl
 take-map (suc n) f [] = refl
 take-map {B} (suc n) f (x ∷ l) = ap (λ (m : List B). f x ∷ m) (take-map n f l)

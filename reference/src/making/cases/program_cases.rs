@@ -1,6 +1,6 @@
 //! The cases of the program `cases`: whole inputs of `watch`. Document 01's sample, inputs at the
-//! edges of what the program takes, random ones from a fixed seed, runs at the ends of the range, and runs
-//! whose preconditions read monitor variables.
+//! edges of what the program takes, random ones from a fixed seed, runs at the ends of the range, runs
+//! whose preconditions read monitor variables, and runs that tell where a call was entered.
 
 use crate::framing::program_frames::Frame;
 use crate::implementation::machine::MOST_PROGRAM;
@@ -11,6 +11,7 @@ use crate::making::cases::sheet_cases::SHEET_A;
 use crate::making::generate::{usual_case, RunCase};
 use crate::making::random::Random;
 use crate::making::scripts::counting_preconditions;
+use crate::making::scripts::entry_positions;
 use crate::making::scripts::script_ends;
 use crate::making::wide;
 
@@ -121,7 +122,11 @@ pub fn all() -> Vec<Frame> {
     frames.extend(at_the_edges());
     frames.extend(random());
     frames.extend(wide());
-    for inputs in [script_ends::inputs(), counting_preconditions::inputs()] {
+    for inputs in [
+        script_ends::inputs(),
+        counting_preconditions::inputs(),
+        entry_positions::inputs(),
+    ] {
         frames.extend(inputs.into_iter().map(Frame::Bytes));
     }
     frames
@@ -139,7 +144,8 @@ mod tests {
         match words[..] {
             ["refused", n] => format!("refused {n}"),
             ["refused", n, "at", _] => format!("refused {n} at"),
-            ["violated", _, "state", s, "triple", t] => {
+            ["violated", _, "state", s, "triple", t, "entry", e] => {
+                assert_eq!(e == "-", t == "-", "{line}");
                 format!("violated state {} triple {}", s == "-", t == "-")
             }
             _ => words[0].to_string(),

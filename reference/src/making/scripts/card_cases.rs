@@ -9,6 +9,7 @@ use crate::making::cases::sheet_cases::{greatest_network, network_of_length};
 use crate::making::draft::NetworkDraft;
 use crate::making::generate::{self, Size};
 use crate::making::random::Random;
+use crate::making::scripts::entry_clauses;
 use crate::making::scripts::monitor_cases::random_sheet;
 use crate::making::scripts::network_cases::{least, random_network, refused_networks, taken, Page};
 use crate::making::scripts::random_script::on_rules;
@@ -113,20 +114,20 @@ fn entered(script: &mut Script) {
         } else {
             &[(7, 0)]
         };
-        let line = taken(&front, &[(7, 0, &[value])], created, " p=1");
+        let line = taken(&front, &[(7, 0, 1, &[value])], created, " p=1");
         script.offer(&entry(0, 7, &[value]), &line);
     }
 }
 
 /// A call that was entered with 2: below 3 its exit leads back, above it leads to the bad state.
 fn left(script: &mut Script) {
-    let line = taken(" m=1 x0=2", &[(7, 0, &[2])], &[(7, 0)], " p=1");
+    let line = taken(" m=1 x0=2", &[(7, 0, 1, &[2])], &[(7, 0)], " p=1");
     script.step(&entry(0, 7, &[2]), &line);
     for (value, line) in [
         (2, "taken x0=2 p=2"),
-        (1, "taken x0=2 p=2 violated 2 state - triple 0"),
-        (3, "taken m=2 x0=2 p=2 violated 2 state 2 triple 0"),
-        (9, "taken m=2 x0=2 p=2 violated 2 state 2 triple 0"),
+        (1, "taken x0=2 p=2 violated 2 state - triple 0 entry 1"),
+        (3, "taken m=2 x0=2 p=2 violated 2 state 2 triple 0 entry 1"),
+        (9, "taken m=2 x0=2 p=2 violated 2 state 2 triple 0 entry 1"),
     ] {
         script.offer(&exit(0, 7, &[value]), line);
     }
@@ -136,7 +137,7 @@ fn left(script: &mut Script) {
     script.offer(&exit(0, 8, &[4]), "taken x0=4 p=2");
     script.offer(
         &exit(0, 8, &[5]),
-        "taken m=2 x0=4 p=2 violated 2 state 2 triple -",
+        "taken m=2 x0=4 p=2 violated 2 state 2 triple - entry 0",
     );
 }
 
@@ -144,12 +145,12 @@ fn runs(script: &mut Script) {
     let mut run = |records: &[Record], line: &str| script.run_records(1, records, line);
     for (entered, left, line) in [
         (2, 2, "clean 2 state 0 open 0"),
-        (2, 1, "violated 2 state - triple 0"),
-        (2, 3, "violated 2 state 2 triple 0"),
+        (2, 1, "violated 2 state - triple 0 entry 1"),
+        (2, 3, "violated 2 state 2 triple 0 entry 1"),
         (4, 4, "clean 2 state 0 open 0"),
-        (4, 5, "violated 2 state 2 triple -"),
+        (4, 5, "violated 2 state 2 triple - entry -"),
         (5, 5, "clean 2 state 0 open 0"),
-        (5, 4, "violated 2 state - triple 0"),
+        (5, 4, "violated 2 state - triple 0 entry 1"),
     ] {
         run(&[entry(0, 7, &[entered]), exit(0, 7, &[left])], line);
     }
@@ -199,7 +200,8 @@ fn rival_runs(script: &mut Script) {
 
 // ---- Refused and random networks --------------------------------------------------------------
 
-fn reading(script: &mut Script) {
+/// Networks of version 3 that are refused, each with its number.
+fn refused_cards() -> Vec<(u8, Vec<u8>)> {
     let good = in_version_3(&Network::of_sheet(&base()));
     let make = |program: u8, initial: &[i32]| least(program, initial).in_version_3();
     let mut refused = refused_networks(make, &good);
@@ -223,7 +225,15 @@ fn reading(script: &mut Script) {
         d.front.conditions.resize(161, vec![0]);
         d.transitions[0].0[3] = 161;
     });
-    shared_cases::reading(script, &refused);
+    refused
+}
+
+fn reading(script: &mut Script) {
+    shared_cases::reading(script, &refused_cards());
+}
+
+pub(crate) fn reading_before_entries(script: &mut Script) {
+    entry_clauses::reading(script, &refused_cards());
 }
 
 const SEED: u64 = 0x5741_5443_480A;

@@ -13,7 +13,7 @@ use crate::making::scripts::card_cases::{padded, page_in_version_3};
 use crate::making::scripts::counting_preconditions;
 use crate::making::scripts::network_cases::{least, Page};
 use crate::making::scripts::script::{self, entry, exit, Sort};
-use crate::making::scripts::shared_cases::{held, ran, taken};
+use crate::making::scripts::shared_cases::{broken, held, ran, taken, Broken};
 
 type Script = script::Script<Network>;
 
@@ -87,8 +87,10 @@ fn shown((main, [x, y]): State) -> (u8, [i32; 4]) {
     (main, [x, y, 0, 0])
 }
 
-fn cause(main: u8, template: Option<u8>) -> Option<Cause> {
-    Cause::new((main == BAD).then_some(main), template)
+/// What is broken in a state, with a template by a call that was entered there.
+fn found(main: u8, template: Option<u8>, entered: u32) -> Option<Broken> {
+    let bad = (main == BAD).then_some(main);
+    broken(Cause::new(bad, template), entered)
 }
 
 /// What an entry leaves, and the templates of the checkers that it creates: all by the variables before it.
@@ -153,8 +155,8 @@ fn entered_and_left(script: &mut Script, before: State, unit: u8, p: i32) {
     ]);
     let (after, created) = entered(before, unit, p);
     let enters = entry(unit, 7, &[p]);
-    let open = [(held(&enters), created.clone())];
-    let line = taken::<Network>(shown(after), &open, 1, cause(after.0, None));
+    let open = [(held(&enters, 1), created.clone())];
+    let line = taken::<Network>(shown(after), &open, 1, found(after.0, None, 0));
     script.step(&enters, &line);
     // A run that has come to a verdict does not go on.
     let values = if after.0 == BAD {
@@ -164,8 +166,8 @@ fn entered_and_left(script: &mut Script, before: State, unit: u8, p: i32) {
     };
     for value in values {
         let then = left(after, unit);
-        let cause = cause(then.0, failing(&created, [p, value]));
-        let line = taken::<Network>(shown(then), &[], 2, cause);
+        let found = found(then.0, failing(&created, [p, value]), 1);
+        let line = taken::<Network>(shown(then), &[], 2, found);
         script.offer(&exit(unit, 7, &[value]), &line);
     }
 }
@@ -190,7 +192,7 @@ fn run_of_three(script: &mut Script, values: [i32; 3], units: [u8; 3], leaves: u
         records.push(entry(unit, number, &[p]));
         calls.push((unit, number, p, created));
         if after.0 == BAD {
-            let line = ran(BAD, 0, records.len() as u32, cause(BAD, None));
+            let line = ran(BAD, 0, records.len() as u32, found(BAD, None, 0));
             script.run_records(1, &records, &line);
             return;
         }
@@ -198,8 +200,8 @@ fn run_of_three(script: &mut Script, values: [i32; 3], units: [u8; 3], leaves: u
     let (unit, number, p, created) = &calls[leaves];
     records.push(exit(*unit, *number, &[p + 1]));
     let (main, _) = left(state, *unit);
-    let cause = cause(main, failing(created, [*p, p + 1]));
-    script.run_records(1, &records, &ran(main, 2, 4, cause));
+    let found = found(main, failing(created, [*p, p + 1]), leaves as u32 + 1);
+    script.run_records(1, &records, &ran(main, 2, 4, found));
 }
 
 // ---- The least network ------------------------------------------------------------------------
@@ -212,7 +214,8 @@ fn least_with_variable(script: &mut Script) {
     script.sort = Sort::Preconditions;
     script.rules(&network.bytes());
     script.fresh("accepted");
-    script.step(&entry(0, 7, &[3]), "taken o=1 n0=7 k0.0=3 l=1 c0=7 p=1");
+    let entered = "taken o=1 n0=7 e0=1 k0.0=3 l=1 c0=7 f0=1 p=1";
+    script.step(&entry(0, 7, &[3]), entered);
     script.ask(0, "entry 0 k0.0=3");
     script.step(&exit(0, 7, &[3]), "taken p=2");
 }
@@ -255,7 +258,7 @@ fn joined_pairs(script: &mut Script) {
         ]);
         let enters = entry(0, 7, &[p]);
         let created = own_and_last_two([x, y], p);
-        let line = taken::<Network>(shown(after), &[(held(&enters), created)], 1, None);
+        let line = taken::<Network>(shown(after), &[(held(&enters, 1), created)], 1, None);
         script.offer(&enters, &line);
     }
 }
@@ -299,7 +302,7 @@ fn long_pairs(script: &mut Script) {
         for (number, x) in (1..).zip([0, 1, 2, 3]) {
             let enters = entry(0, number, &[5]);
             let created = if x < 2 { vec![0] } else { vec![1, 0] };
-            open.push((held(&enters), created));
+            open.push((held(&enters, number.into()), created));
             let variables = [x + 1, 0, 0, 0];
             let line = taken::<Network>((0, variables), &open, number.into(), None);
             script.step(&enters, &line);

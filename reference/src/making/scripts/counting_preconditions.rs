@@ -13,7 +13,7 @@ use crate::making::draft::SheetDraft;
 use crate::making::generate::{self, Manner, Shape, Size};
 use crate::making::random::Random;
 use crate::making::scripts::script::{self, entry, exit, Page, Script, Sort};
-use crate::making::scripts::shared_cases::{held, ran, taken, Subject};
+use crate::making::scripts::shared_cases::{broken, held, ran, taken, Subject};
 use crate::making::scripts::walk::{Leaves, Walk};
 use std::cmp::Ordering;
 
@@ -137,11 +137,11 @@ fn from_counters<R: Subject>(script: &mut Script<R>) {
         let armed: Vec<u8> = is_armed.then_some(unit).into_iter().collect();
         let enters = entry(unit, CALL, &[p]);
         set(script, 0, &[x]);
-        let open = [(held(&enters), armed)];
+        let open = [(held(&enters, 1), armed)];
         script.step(&enters, &taken::<R>((0, counter(after)), &open, 1, None));
         for left in [p, p + 1] {
             let cause = (is_armed && left != p).then_some(Cause::Triple(unit));
-            let line = taken::<R>((0, counter(after)), &[], 2, cause);
+            let line = taken::<R>((0, counter(after)), &[], 2, broken(cause, 1));
             script.offer(&exit(unit, CALL, &[left]), &line);
         }
     });
@@ -159,7 +159,7 @@ fn counters_in_runs<R: Subject>(script: &mut Script<R>) {
             entry(unit, CALL, &[p]),
             exit(unit, CALL, &[p + 1]),
         ];
-        script.run_records(1, &records, &ran(0, 1, 3, cause));
+        script.run_records(1, &records, &ran(0, 1, 3, broken(cause, 2)));
     });
 }
 
@@ -266,11 +266,11 @@ fn from_variables<R: Subject>(script: &mut Script<R>) {
         let after = moved_on(variables, values);
         let (enters, [p, q]) = (entry(unit, CALL, &values), values);
         set(script, 0, &variables);
-        let open = [(held(&enters), armed.clone())];
+        let open = [(held(&enters, 1), armed.clone())];
         script.step(&enters, &taken::<R>((0, after), &open, 1, None));
         let cause = armed.first().copied().map(Cause::Triple);
         for (values, cause) in [([p + 1, q], None), ([p, q + 1], cause)] {
-            let line = taken::<R>((0, after), &[], 2, cause);
+            let line = taken::<R>((0, after), &[], 2, broken(cause, 1));
             script.offer(&exit(unit, CALL, &values), &line);
         }
     });
@@ -287,7 +287,7 @@ fn variables_in_runs<R: Subject>(script: &mut Script<R>) {
         let last = [entry(unit, CALL, &values), exit(unit, CALL, &[p, q + 1])];
         let records: Vec<Record> = makes.chain(last).collect();
         let cause = armed.first().copied().map(Cause::Triple);
-        script.run_records(2, &records, &ran(0, 4, 6, cause));
+        script.run_records(2, &records, &ran(0, 4, 6, broken(cause, 5)));
     });
 }
 
@@ -370,15 +370,19 @@ fn in_every_role<R: Subject>(script: &mut Script<R>) {
     {
         let (enters, now) = (entry(0, CALL, &[p]), entered(main, x, p));
         set(script, main, &[x]);
-        let open = [(held(&enters), now.armed.clone())];
+        let open = [(held(&enters, 1), now.armed.clone())];
         let state = (now.main, now.variables);
-        script.step(&enters, &taken::<R>(state, &open, 1, now.cause));
+        let line = taken::<R>(state, &open, 1, broken(now.cause, 0));
+        script.step(&enters, &line);
         for value in [0, 5, 6, 9] {
             let leaves = exit(0, CALL, &[value]);
             let then = left(now.main, now.variables[0], &now.armed, [p, value]);
             let line = match now.main {
                 BAD => "refused 10".to_string(),
-                _ => taken::<R>((then.main, then.variables), &[], 2, then.cause),
+                _ => {
+                    let failed = broken(then.cause, 1);
+                    taken::<R>((then.main, then.variables), &[], 2, failed)
+                }
             };
             script.offer(&leaves, &line);
         }

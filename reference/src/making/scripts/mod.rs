@@ -3,6 +3,8 @@
 pub mod card_cases;
 pub mod counting_pairs;
 pub mod counting_preconditions;
+pub mod entry_clauses;
+pub mod entry_positions;
 pub mod monitor_cases;
 pub mod monitor_clauses;
 pub mod network_cases;
@@ -10,6 +12,7 @@ pub mod network_clauses;
 pub mod random_script;
 pub mod script;
 pub mod script_ends;
+pub mod settling;
 pub mod shared_cases;
 pub mod shared_clauses;
 pub mod walk;

@@ -10,6 +10,8 @@ use crate::making::draft::SheetDraft;
 use crate::making::generate::{self, Size};
 use crate::making::random::Random;
 use crate::making::scripts::counting_preconditions;
+use crate::making::scripts::entry_clauses;
+use crate::making::scripts::entry_positions;
 use crate::making::scripts::monitor_clauses::{
     BASE_CLAUSES, EDGE_CLAUSES, FULL_CLAUSES, TINY_CLAUSES,
 };
@@ -17,6 +19,7 @@ use crate::making::scripts::random_script::on_rules;
 use crate::making::scripts::script::{self, entry, exit, Sort};
 use crate::making::scripts::script_ends;
 use crate::making::scripts::shared_cases::{self, base, full_state, tiny, Events, Near, Subject};
+use crate::making::scripts::shared_clauses::Clause;
 use crate::making::scripts::wide_cases;
 
 pub type Page = script::Page<Arms>;
@@ -24,11 +27,12 @@ type Script = script::Script<Sheet>;
 
 impl Subject for Sheet {
     const BASE_LINES: [&'static str; 2] = [
-        "x0=5 x1=-1 o=1 n0=7 k0.0=2 k0.1=1 a0=2 t0.1=3 p=1",
-        "x0=6 x1=-1 o=2 n0=7 k0.0=2 k0.1=1 a0=2 t0.1=3 n1=8 u1=1 k1.0=3 k1.1=4 a1=1 t1.0=4 p=2",
+        "x0=5 x1=-1 o=1 n0=7 e0=1 k0.0=2 k0.1=1 a0=2 t0.1=3 p=1",
+        "x0=6 x1=-1 o=2 n0=7 e0=1 k0.0=2 k0.1=1 a0=2 t0.1=3 \
+         n1=8 u1=1 e1=2 k1.0=3 k1.1=4 a1=1 t1.0=4 p=2",
     ];
     const EDGE_LINE: &'static str = "m=15 x0=-2147483648 x1=-1 x3=2147483647 o=1 n0=65535 u0=15 \
-        k0.0=1 k0.1=2 k0.2=3 k0.3=4 k0.4=5 k0.5=6 k0.6=7 k0.7=-1 a0=4 t0.1=1 t0.2=2 t0.3=3 p=1";
+        e0=1 k0.0=1 k0.1=2 k0.2=3 k0.3=4 k0.4=5 k0.5=6 k0.6=7 k0.7=-1 a0=4 t0.1=1 t0.2=2 t0.3=3 p=1";
     const BREAKS: [Set<Arms>; 5] = [
         (Field::Variable(3), 1),
         (Field::Kept(1, 7), 1),
@@ -36,6 +40,7 @@ impl Subject for Sheet {
         (Field::Unit(1), 2),
         (Field::Own(Arms::Triple(1, 3)), 1),
     ];
+    const ENTRY_CLAUSES: &'static [Clause<Arms>] = &[];
 
     fn of_sheet(draft: &SheetDraft) -> Vec<u8> {
         draft.bytes()
@@ -49,6 +54,10 @@ impl Subject for Sheet {
         let armed = &mut state.armed[place];
         armed.triples[usize::from(armed.count)] = triple;
         armed.count += 1;
+    }
+
+    fn settling_checkers(_: &SheetState) -> Vec<Set<Arms>> {
+        Vec::new()
     }
 
     fn own_field(random: &mut Random, number: usize, _: &Bench<Sheet>, near: Near) -> Set<Arms> {
@@ -66,19 +75,20 @@ fn document(script: &mut Script) {
     script.sort = Sort::Reached;
     script.rules(&SHEET_A);
     script.fresh("accepted");
-    let opened = "m=1 o=1 n0=7 k0.0=8 a0=1 p=1";
+    let opened = "m=1 o=1 n0=7 e0=1 k0.0=8 a0=1 p=1";
     script.step(&entry(0, 7, &[8, 0]), &format!("taken {opened}"));
     script.offer(&exit(0, 7, &[8, 8]), "taken p=2");
-    let violated = "p=2 violated 2 state - triple 0";
+    let violated = "p=2 violated 2 state - triple 0 entry 1";
     script.offer(&exit(0, 7, &[8, 7]), &format!("taken {violated}"));
     script.offer(&exit(0, 9, &[8, 8]), &format!("refused 15 {opened}"));
     script.offer(&entry(0, 7, &[8, 0]), &format!("refused 13 {opened}"));
-    let other = "m=1 o=2 n0=7 k0.0=8 a0=1 n1=9 k1.0=3 p=2";
+    let other = "m=1 o=2 n0=7 e0=1 k0.0=8 a0=1 n1=9 e1=2 k1.0=3 p=2";
     script.step(&entry(0, 9, &[3, 0]), &format!("taken {other}"));
-    script.step(&exit(0, 9, &[3, 0]), "taken o=1 n0=7 k0.0=8 a0=1 p=3");
+    let outer = "o=1 n0=7 e0=1 k0.0=8 a0=1 p=3";
+    script.step(&exit(0, 9, &[3, 0]), &format!("taken {outer}"));
     script.step(
         &exit(0, 7, &[7, 7]),
-        "taken p=4 violated 4 state - triple 0",
+        "taken p=4 violated 4 state - triple 0 entry 1",
     );
     script.offer(&entry(0, 7, &[8, 0]), "refused 10");
     shared_cases::document_runs(script);
@@ -99,10 +109,10 @@ fn soundness(script: &mut Script) {
 
 fn positions(script: &mut Script) {
     shared_cases::positions(script);
-    let seven = "n0=7 k0.0=2 k0.1=1 a0=2 t0.1=3";
-    let eight = "n1=8 u1=1 k1.0=3 k1.1=4 a1=1 t1.0=4";
-    let nine = "n2=9 k2.0=1 k2.1=3 a2=4 t2.1=1 t2.2=3 t2.3=5";
-    let without_seven = "o=1 n0=8 u0=1 k0.0=3 k0.1=4 a0=1 t0.0=4 p=4294967295";
+    let seven = "n0=7 e0=1 k0.0=2 k0.1=1 a0=2 t0.1=3";
+    let eight = "n1=8 u1=1 e1=2 k1.0=3 k1.1=4 a1=1 t1.0=4";
+    let nine = "n2=9 e2=4294967295 k2.0=1 k2.1=3 a2=4 t2.1=1 t2.2=3 t2.3=5";
+    let without_seven = "o=1 n0=8 u0=1 e0=2 k0.0=3 k0.1=4 a0=1 t0.0=4 p=4294967295";
     let all_three = format!("o=3 {seven} {eight} {nine} p=4294967295");
     let without_eight = format!("o=1 {seven} p=4294967295");
     let mut last = |event, state: &str, after| {
@@ -111,11 +121,11 @@ fn positions(script: &mut Script) {
     last(entry(0, 9, &[1, 3]), &format!("x0=6 x1=-1 {all_three}"), 12);
     let state = format!("x0=6 x1=-1 {without_seven}");
     last(exit(0, 7, &[2, 2]), &state, 12);
-    let end = "violated 4294967295 state - triple 0";
+    let end = "violated 4294967295 state - triple 0 entry 1";
     let state = format!("m=1 x0=7 x1=-1 {without_seven} {end}");
     last(exit(0, 7, &[2, 3]), &state, 10);
-    for (value, triple) in [(3, "-"), (2, "4")] {
-        let end = format!("violated 4294967295 state 2 triple {triple}");
+    for (value, triple, entered) in [(3, "-", 0), (2, "4", 2)] {
+        let end = format!("violated 4294967295 state 2 triple {triple} entry {entered}");
         let state = format!("m=2 x0=6 x1=-1 {without_eight} {end}");
         last(exit(1, 8, &[1, value]), &state, 10);
     }
@@ -222,6 +232,10 @@ fn reading(script: &mut Script) {
     shared_cases::reading(script, &refused_sheets());
 }
 
+fn reading_before_entries(script: &mut Script) {
+    entry_clauses::reading(script, &refused_sheets());
+}
+
 // ---- Random cases -----------------------------------------------------------------------------
 
 const SEED: u64 = 0x5741_5443_4806;
@@ -260,14 +274,25 @@ fn random_cases(script: &mut Script) {
 
 // ---- All --------------------------------------------------------------------------------------
 
-/// The first page has no room for more.
+/// The refusals together, and what 9 asks about entry positions.
+fn refusals() -> Page {
+    let [calls, sixteen, verdicts, others] = entry_clauses::parts();
+    Script::of(&[
+        refusals_together,
+        calls,
+        sixteen,
+        verdicts,
+        others,
+        reading_before_entries,
+    ])
+}
+
 pub fn all() -> Vec<Page> {
     let first = Script::of(&[
         document,
         soundness,
         positions,
         filling,
-        refusals_together,
         reading,
         shared_cases::logs,
         random_cases,
@@ -275,6 +300,9 @@ pub fn all() -> Vec<Page> {
     let last = [
         script_ends::page::<Sheet>(),
         counting_preconditions::page::<Sheet>(),
+        refusals(),
+        entry_positions::page::<Sheet>(),
+        entry_positions::long_page::<Sheet>(),
     ];
     [vec![first], wide_cases::pages::<Sheet>(), last.into()]
         .into_iter()

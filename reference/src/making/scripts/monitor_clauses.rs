@@ -149,7 +149,6 @@ pub const BASE_CLAUSES: &[Clause] = &[
     Shared::IS_BAD,
     Shared::EXISTS,
     Shared::HAS_VERDICT,
-    Shared::POSITION,
 ];
 
 // ---- The base with sixteen calls ---------------------------------------------------------------
@@ -205,7 +204,7 @@ pub const FULL_CLAUSES: &[Clause] = &[
 
 pub const TINY_CLAUSES: &[Clause] = &[clause(
     &[],
-    &[&[], &[(Position, 0)], &[(Open, 2), (Number(1), 65_535)]],
+    &[&[], &[(Position, 2)], &[(Open, 2), (Number(1), 65_535)]],
     &[
         &[(Main, 1)],
         &[(Main, 255)],

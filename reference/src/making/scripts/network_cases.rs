@@ -7,13 +7,15 @@ use crate::framing::script_frames::{put, Bench, Field, Set};
 use crate::implementation::network::Network;
 use crate::implementation::run::Record;
 use crate::implementation::sheet::Sheet;
-use crate::implementation::state::{NetworkState, MOST_CHECKERS};
+use crate::implementation::state::{self, NetworkState, MOST_CHECKERS};
 use crate::making::cases::sheet_cases::{greatest_network, NETWORK_A};
 use crate::making::draft::{NetworkDraft, SheetDraft};
 use crate::making::generate::{self, Size};
 use crate::making::random::Random;
 use crate::making::scripts::card_cases;
 use crate::making::scripts::counting_pairs;
+use crate::making::scripts::entry_clauses;
+use crate::making::scripts::entry_positions;
 use crate::making::scripts::monitor_cases::random_sheet;
 use crate::making::scripts::network_clauses::{
     BASE_CLAUSES, CROWD_CLAUSES, EDGE_CLAUSES, TINY_CLAUSES,
@@ -22,8 +24,9 @@ use crate::making::scripts::random_script::on_rules;
 use crate::making::scripts::script::{self, entry, event, exit, Sort};
 use crate::making::scripts::script_ends;
 use crate::making::scripts::shared_cases::{
-    self, base, base_state, full_state, tiny, Events, Near, Subject,
+    self, base, base_state, full_state, tiny, Events, Near, Subject, LAST,
 };
+use crate::making::scripts::shared_clauses::Clause;
 use crate::making::scripts::wide_cases;
 
 pub type Page = script::Page<Checkers>;
@@ -31,13 +34,13 @@ type Script = script::Script<Network>;
 
 impl Subject for Network {
     const BASE_LINES: [&'static str; 2] = [
-        "x0=5 x1=-1 o=1 n0=7 k0.0=2 k0.1=1 l=2 c0=7 c1=7 t1=3 p=1",
-        "x0=6 x1=-1 o=2 n0=7 k0.0=2 k0.1=1 n1=8 u1=1 k1.0=3 k1.1=4 \
-         l=3 c0=7 c1=7 t1=3 c2=8 t2=4 p=2",
+        "x0=5 x1=-1 o=1 n0=7 e0=1 k0.0=2 k0.1=1 l=2 c0=7 f0=1 c1=7 t1=3 f1=1 p=1",
+        "x0=6 x1=-1 o=2 n0=7 e0=1 k0.0=2 k0.1=1 n1=8 u1=1 e1=2 k1.0=3 k1.1=4 \
+         l=3 c0=7 f0=1 c1=7 t1=3 f1=1 c2=8 t2=4 f2=2 p=2",
     ];
     const EDGE_LINE: &'static str = "m=15 x0=-2147483648 x1=-1 x3=2147483647 o=1 n0=65535 u0=15 \
-        k0.0=1 k0.1=2 k0.2=3 k0.3=4 k0.4=5 k0.5=6 k0.6=7 k0.7=-1 \
-        l=4 c0=65535 c1=65535 t1=1 c2=65535 t2=2 c3=65535 t3=3 p=1";
+        e0=1 k0.0=1 k0.1=2 k0.2=3 k0.3=4 k0.4=5 k0.5=6 k0.6=7 k0.7=-1 \
+        l=4 c0=65535 f0=1 c1=65535 t1=1 f1=1 c2=65535 t2=2 f2=1 c3=65535 t3=3 f3=1 p=1";
     const BREAKS: [Set<Checkers>; 5] = [
         (Field::Variable(3), 1),
         (Field::Own(Checkers::Template(0)), 8),
@@ -45,6 +48,7 @@ impl Subject for Network {
         (Field::Unit(1), 2),
         (Field::Own(Checkers::Living), 2),
     ];
+    const ENTRY_CLAUSES: &'static [Clause<Checkers>] = entry_clauses::OF_CHECKERS;
 
     fn of_sheet(draft: &SheetDraft) -> Vec<u8> {
         // Drafts that are no sheets are not asked for.
@@ -64,10 +68,34 @@ impl Subject for Network {
     }
 
     fn arm(state: &mut NetworkState, place: usize, triple: u8) {
-        let call = state.common.calls[place].number;
-        let checker = &mut state.checkers[usize::from(state.living)];
-        (checker.call, checker.template) = (call, triple);
+        let call = state.common.calls[place];
+        state.checkers[usize::from(state.living)] = state::Checker {
+            call: call.number,
+            template: triple,
+            entry: call.entry,
+        };
         state.living += 1;
+    }
+
+    fn settling_checkers(state: &NetworkState) -> Vec<Set<Checkers>> {
+        let entry = |place: usize, checker: &state::Checker| {
+            let free = state::Checker {
+                entry: checker.entry,
+                ..state::Checker::default()
+            };
+            let call = state.common.place_of(checker.call);
+            match (place < state.living_checkers().len(), call) {
+                (true, Some(call)) => state.common.calls[call].entry,
+                (false, _) if *checker == free => 0,
+                _ => checker.entry,
+            }
+        };
+        let all = state.checkers.iter().enumerate();
+        let wrong = all.filter(|(place, checker)| entry(*place, checker) != checker.entry);
+        let set = |place| Field::Own(Checkers::Entry(place as u8));
+        wrong
+            .map(|(place, checker)| (set(place), entry(place, checker)))
+            .collect()
     }
 
     fn own_field(
@@ -93,18 +121,19 @@ impl Subject for Network {
 
 // ---- States as lines show them ----------------------------------------------------------------
 
-/// A call's number, its unit and its kept values.
-pub(crate) type Call<'a> = (u16, u8, &'a [i32]);
-/// A checker's call number and its template.
+/// A call's number, its unit, its entry position and its kept values.
+pub(crate) type Call<'a> = (u16, u8, u32, &'a [i32]);
+/// A checker's call number and its template. Its entry position is its call's.
 pub(crate) type Checker = (u16, u8);
 
 /// A taken event's line: what stands before the calls, these calls and checkers, and the rest.
 pub(crate) fn taken(front: &str, calls: &[Call], checkers: &[Checker], rest: &str) -> String {
     let mut line = format!("taken{front}");
     put(&mut line, "o", calls.len() as i64);
-    for (i, (number, unit, kept)) in calls.iter().enumerate() {
+    for (i, (number, unit, entry, kept)) in calls.iter().enumerate() {
         put(&mut line, &format!("n{i}"), (*number).into());
         put(&mut line, &format!("u{i}"), (*unit).into());
+        put(&mut line, &format!("e{i}"), (*entry).into());
         for (j, value) in kept.iter().enumerate() {
             put(&mut line, &format!("k{i}.{j}"), (*value).into());
         }
@@ -113,6 +142,9 @@ pub(crate) fn taken(front: &str, calls: &[Call], checkers: &[Checker], rest: &st
     for (i, (call, template)) in checkers.iter().enumerate() {
         put(&mut line, &format!("c{i}"), (*call).into());
         put(&mut line, &format!("t{i}"), (*template).into());
+        let own = calls.iter().find(|(number, ..)| number == call);
+        let entry = own.map_or(0, |(_, _, entry, _)| *entry);
+        put(&mut line, &format!("f{i}"), entry.into());
     }
     line + rest
 }
@@ -123,20 +155,21 @@ fn document(script: &mut Script) {
     script.sort = Sort::Reached;
     script.rules(&NETWORK_A);
     script.fresh("accepted");
-    let opened = "m=1 o=1 n0=7 k0.0=8 l=1 c0=7 p=1";
+    let opened = "m=1 o=1 n0=7 e0=1 k0.0=8 l=1 c0=7 f0=1 p=1";
     script.step(&entry(0, 7, &[8, 0]), &format!("taken {opened}"));
     script.ask(0, "entry 0 k0.0=8");
     script.offer(&exit(0, 7, &[8, 8]), "taken p=2");
-    let violated = "p=2 violated 2 state - triple 0";
+    let violated = "p=2 violated 2 state - triple 0 entry 1";
     script.offer(&exit(0, 7, &[8, 7]), &format!("taken {violated}"));
     script.offer(&exit(0, 9, &[8, 8]), &format!("refused 15 {opened}"));
     script.offer(&entry(0, 7, &[8, 0]), &format!("refused 13 {opened}"));
-    let other = "m=1 o=2 n0=7 k0.0=8 n1=9 k1.0=3 l=1 c0=7 p=2";
+    let other = "m=1 o=2 n0=7 e0=1 k0.0=8 n1=9 e1=2 k1.0=3 l=1 c0=7 f0=1 p=2";
     script.step(&entry(0, 9, &[3, 0]), &format!("taken {other}"));
-    script.step(&exit(0, 9, &[3, 0]), "taken o=1 n0=7 k0.0=8 l=1 c0=7 p=3");
+    let outer = "o=1 n0=7 e0=1 k0.0=8 l=1 c0=7 f0=1 p=3";
+    script.step(&exit(0, 9, &[3, 0]), &format!("taken {outer}"));
     script.step(
         &exit(0, 7, &[7, 7]),
-        "taken p=4 violated 4 state - triple 0",
+        "taken p=4 violated 4 state - triple 0 entry 1",
     );
     script.offer(&entry(0, 7, &[8, 0]), "refused 10");
     shared_cases::document_runs(script);
@@ -171,8 +204,8 @@ fn hand() -> NetworkDraft {
     network
 }
 
-/// Call 7 with the value 3, in state 1; the lower templates' checkers come after the higher ones'.
-const SEVEN: Call = (7, 0, &[3]);
+/// Call 7, entered first with the value 3, in state 1; the lower templates' checkers come after the higher ones'.
+const SEVEN: Call = (7, 0, 1, &[3]);
 const OF_SEVEN: [Checker; 4] = [(7, 2), (7, 1), (7, 0), (7, 1)];
 const OF_EIGHT: [Checker; 4] = [(8, 1); 4];
 
@@ -181,23 +214,24 @@ fn creating(script: &mut Script) {
     script.rules(&hand().bytes());
     script.fresh("accepted");
     // By a transition that stays; by none; by one to the bad state.
-    let stays = taken("", &[(7, 0, &[9])], &[(7, 4), (7, 0)], " p=1");
+    let stays = taken("", &[(7, 0, 1, &[9])], &[(7, 4), (7, 0)], " p=1");
     script.offer(&entry(0, 7, &[9]), &stays);
-    script.offer(&entry(1, 7, &[9]), &taken("", &[(7, 1, &[9])], &[], " p=1"));
-    let bad = " p=1 violated 1 state 2 triple -";
-    let both = taken(" m=2", &[(7, 1, &[3])], &[(7, 3), (7, 5)], bad);
+    let none = taken("", &[(7, 1, 1, &[9])], &[], " p=1");
+    script.offer(&entry(1, 7, &[9]), &none);
+    let bad = " p=1 violated 1 state 2 triple - entry 0";
+    let both = taken(" m=2", &[(7, 1, 1, &[3])], &[(7, 3), (7, 5)], bad);
     script.offer(&entry(1, 7, &[3]), &both);
     // By one that moves.
     let moved = taken(" m=1 x0=1", &[SEVEN], &OF_SEVEN, " p=1");
     script.step(&entry(0, 7, &[3]), &moved);
     for (value, more) in [(3, &[(8, 5), (8, 3)][..]), (9, &[(8, 3)])] {
         let (eight, row) = ([value], [&OF_SEVEN, more].concat());
-        let line = taken(" m=1 x0=1", &[SEVEN, (8, 1, &eight)], &row, " p=2");
+        let line = taken(" m=1 x0=1", &[SEVEN, (8, 1, 2, &eight)], &row, " p=2");
         script.offer(&entry(1, 8, &[value]), &line);
     }
     // By one that leads back, with one template four times.
     let (nine, row) = ([9], [OF_SEVEN, OF_EIGHT].concat());
-    let line = taken(" x0=2", &[SEVEN, (8, 0, &nine)], &row, " p=2");
+    let line = taken(" x0=2", &[SEVEN, (8, 0, 2, &nine)], &row, " p=2");
     script.offer(&entry(0, 8, &[9]), &line);
     judging(script);
     judging_beside_another(script);
@@ -213,7 +247,7 @@ fn judging(script: &mut Script) {
         (i32::MAX, " m=1 x0=1", 0),
         (i32::MIN, " x0=2", 0),
     ] {
-        let rest = format!(" p=2 violated 2 state - triple {template}");
+        let rest = format!(" p=2 violated 2 state - triple {template} entry 1");
         let line = taken(front, &[], &[], &rest);
         script.offer(&exit(0, 7, &[value]), &line);
     }
@@ -221,21 +255,21 @@ fn judging(script: &mut Script) {
 
 /// The same beside call 8, which has one template four times; values below 5 lead to the bad state.
 fn judging_beside_another(script: &mut Script) {
-    let eight = (8, 0, &[3][..]);
+    let eight = (8, 0, 2, &[3][..]);
     let row = [OF_SEVEN, OF_EIGHT].concat();
     let line = taken(" x0=2", &[SEVEN, eight], &row, " p=2");
     script.step(&entry(0, 8, &[3]), &line);
     for (value, front, rest) in [
-        (4, " m=2 x0=2", " violated 3 state 2 triple -"),
-        (3, " m=2 x0=2", " violated 3 state 2 triple 1"),
-        (-1, " m=2 x0=2", " violated 3 state 2 triple 1"),
+        (4, " m=2 x0=2", " violated 3 state 2 triple - entry 0"),
+        (3, " m=2 x0=2", " violated 3 state 2 triple 1 entry 2"),
+        (-1, " m=2 x0=2", " violated 3 state 2 triple 1 entry 2"),
         (9, " x0=2", ""),
     ] {
         let line = taken(front, &[SEVEN], &OF_SEVEN, &format!(" p=3{rest}"));
         script.offer(&exit(0, 8, &[value]), &line);
     }
     for (value, front, bad) in [(4, " m=2 x0=2", "2"), (9, " x0=2", "-")] {
-        let rest = format!(" p=3 violated 3 state {bad} triple 0");
+        let rest = format!(" p=3 violated 3 state {bad} triple 0 entry 1");
         let line = taken(front, &[eight], &OF_EIGHT, &rest);
         script.offer(&exit(0, 7, &[value]), &line);
     }
@@ -245,7 +279,7 @@ fn judging_beside_another(script: &mut Script) {
 /// A third call counts the variable up to 3, so that a fourth finds no transition; a fifth is created
 /// checkers and leads to the bad state.
 fn counting(script: &mut Script) {
-    let (eight, nine, ten): (Call, Call, Call) = ((8, 0, &[3]), (9, 0, &[3]), (10, 0, &[3]));
+    let [eight, nine, ten] = [(8, 2), (9, 3), (10, 4)].map(|(n, at)| (n, 0, at, &[3][..]));
     let of_nine = OF_SEVEN.map(|(_, template)| (9, template));
     let row = [OF_SEVEN, OF_EIGHT, of_nine].concat();
     let line = taken(" m=1 x0=3", &[SEVEN, eight, nine], &row, " p=3");
@@ -255,8 +289,8 @@ fn counting(script: &mut Script) {
     let line = taken(" x0=4", &[SEVEN, eight, nine], &row, " p=5");
     script.step(&exit(0, 10, &[3]), &line);
     let row = [&row[..], &[(11, 3), (11, 5)]].concat();
-    let bad = " p=6 violated 6 state 2 triple -";
-    let calls = [SEVEN, eight, nine, (11, 1, &[-2])];
+    let bad = " p=6 violated 6 state 2 triple - entry 0";
+    let calls = [SEVEN, eight, nine, (11, 1, 6, &[-2])];
     let line = taken(" m=2 x0=4", &calls, &row, bad);
     script.offer(&entry(1, 11, &[-2]), &line);
 }
@@ -292,14 +326,14 @@ fn pairs(script: &mut Script) {
         let created = PAIRED.iter().filter(holds).map(|(_, t)| (5, *t));
         let created: Vec<Checker> = created.collect();
         script.restore();
-        let line = taken("", &[(5, 0, &values)], &created, " p=1");
+        let line = taken("", &[(5, 0, 1, &values)], &created, " p=1");
         script.step(&entry(0, 5, &values), &line);
         for changed in [&[][..], &[0, 1, 2], &[1, 2], &[2], &[3]] {
             let mut values = values;
             changed.iter().for_each(|i| values[*i] += 7);
             let fails = |(_, template): &&Checker| changed.contains(&usize::from(*template));
             let lowest = created.iter().filter(fails).map(|(_, t)| *t).min();
-            let verdict = lowest.map(|t| format!(" violated 2 state - triple {t}"));
+            let verdict = lowest.map(|t| format!(" violated 2 state - triple {t} entry 1"));
             let line = format!("taken p=2{}", verdict.unwrap_or_default());
             script.offer(&exit(0, 5, &values), &line);
         }
@@ -319,17 +353,23 @@ fn nest() -> NetworkDraft {
     network
 }
 
-/// Calls of `nest`, by number and value: its line after a taken event, with its two checkers each.
-fn nested(open: &[(u16, i32)], position: usize, verdict: &str) -> String {
-    let values: Vec<[i32; 1]> = open.iter().map(|(_, value)| [*value]).collect();
+/// A call of `nest`: its number, its value and its entry position.
+type Nested = (u16, i32, u32);
+
+/// Calls of `nest`: its line after a taken event, with two checkers for each.
+fn nested(open: &[Nested], position: u32, verdict: &str) -> String {
+    let values: Vec<[i32; 1]> = open.iter().map(|(_, value, _)| [*value]).collect();
     let calls = open.iter().zip(&values);
-    let calls: Vec<Call> = calls.map(|((n, _), v)| (*n, 0, &v[..])).collect();
-    let checkers = open.iter().flat_map(|(n, _)| [(*n, 1), (*n, 0)]);
+    let calls: Vec<Call> = calls.map(|((n, _, at), v)| (*n, 0, *at, &v[..])).collect();
+    let checkers = open.iter().flat_map(|(n, ..)| [(*n, 1), (*n, 0)]);
     let checkers: Vec<Checker> = checkers.collect();
     taken("", &calls, &checkers, &format!(" p={position}{verdict}"))
 }
 
-const FAILED: &str = " state - triple 0";
+/// The verdict where template 0 fails, of a call that was entered there.
+fn failed(position: u32, entered: u32) -> String {
+    format!(" violated {position} state - triple 0 entry {entered}")
+}
 
 /// Three calls, left in every order. Each exit is offered first with another call's value, which its
 /// own checker alone judges; the checkers of the calls that stay are not judged and live on.
@@ -337,10 +377,10 @@ fn nesting(script: &mut Script) {
     script.rules(&nest().bytes());
     script.fresh("accepted");
     script.sort = Sort::Nesting;
-    let open = [(7, 20), (0, 10), (263, -30)];
+    let open = [(7, 20, 1), (0, 10, 2), (263, -30, 3)];
     for count in 1..=3 {
-        let (number, value) = open[count - 1];
-        let line = nested(&open[..count], count, "");
+        let (number, value, at) = open[count - 1];
+        let line = nested(&open[..count], at, "");
         script.step(&entry(0, number, &[value]), &line);
     }
     script.save();
@@ -355,10 +395,10 @@ fn nesting(script: &mut Script) {
         script.restore();
         let mut left = open.to_vec();
         for (place, position) in order.iter().zip(4..) {
-            let (number, value) = open[*place];
-            left.retain(|(other, _)| *other != number);
+            let (number, value, at) = open[*place];
+            left.retain(|(other, ..)| *other != number);
             let wrong = open[(place + 1) % 3].1;
-            let line = nested(&left, position, &format!(" violated {position}{FAILED}"));
+            let line = nested(&left, position, &failed(position, at));
             script.offer(&exit(0, number, &[wrong]), &line);
             let line = nested(&left, position, "");
             script.step(&exit(0, number, &[value]), &line);
@@ -367,14 +407,14 @@ fn nesting(script: &mut Script) {
     numbers_again(script);
 }
 
-/// A number that comes again has new values at entry, and the last place.
+/// A number that comes again has new values at entry, a new entry position, and the last place.
 fn numbers_again(script: &mut Script) {
     script.fresh("accepted");
-    let steps: [(Record, &[(u16, i32)]); 4] = [
-        (entry(0, 7, &[20]), &[(7, 20)]),
-        (entry(0, 8, &[30]), &[(7, 20), (8, 30)]),
-        (exit(0, 7, &[20]), &[(8, 30)]),
-        (entry(0, 7, &[40]), &[(8, 30), (7, 40)]),
+    let steps: [(Record, &[Nested]); 4] = [
+        (entry(0, 7, &[20]), &[(7, 20, 1)]),
+        (entry(0, 8, &[30]), &[(7, 20, 1), (8, 30, 2)]),
+        (exit(0, 7, &[20]), &[(8, 30, 2)]),
+        (entry(0, 7, &[40]), &[(8, 30, 2), (7, 40, 4)]),
     ];
     for ((event, open), position) in steps.iter().zip(1..) {
         script.step(event, &nested(open, position, ""));
@@ -382,19 +422,17 @@ fn numbers_again(script: &mut Script) {
     script.ask(0, "entry 0 k0.0=30");
     script.ask(3, "entry 3 k3.0=40");
     // The same exit values, which one call was entered with and the other was not.
-    let failed = format!(" violated 5{FAILED}");
-    let (seven, eight): (&[_], &[_]) = (&[(7, 40)], &[(8, 30)]);
-    script.offer(&exit(0, 7, &[20]), &nested(eight, 5, &failed));
-    script.offer(&exit(0, 7, &[30]), &nested(eight, 5, &failed));
+    let (seven, eight): (&[_], &[_]) = (&[(7, 40, 4)], &[(8, 30, 2)]);
+    script.offer(&exit(0, 7, &[20]), &nested(eight, 5, &failed(5, 4)));
+    script.offer(&exit(0, 7, &[30]), &nested(eight, 5, &failed(5, 4)));
     script.offer(&exit(0, 8, &[30]), &nested(seven, 5, ""));
-    script.offer(&exit(0, 8, &[40]), &nested(seven, 5, &failed));
+    script.offer(&exit(0, 8, &[40]), &nested(seven, 5, &failed(5, 2)));
     script.step(&exit(0, 7, &[40]), &nested(eight, 5, ""));
     // None is open, then number 8 comes again.
     script.step(&exit(0, 8, &[30]), &nested(&[], 6, ""));
-    script.step(&entry(0, 8, &[50]), &nested(&[(8, 50)], 7, ""));
+    script.step(&entry(0, 8, &[50]), &nested(&[(8, 50, 7)], 7, ""));
     script.offer(&exit(0, 7, &[40]), "refused 15");
-    let failed = format!(" violated 8{FAILED}");
-    script.offer(&exit(0, 8, &[30]), &nested(&[], 8, &failed));
+    script.offer(&exit(0, 8, &[30]), &nested(&[], 8, &failed(8, 7)));
     script.offer(&exit(0, 8, &[50]), &nested(&[], 8, ""));
 }
 
@@ -428,12 +466,17 @@ fn unit_of(number: u16) -> u8 {
     (number % 2) as u8
 }
 
+/// A call of `crowd`: its number and its entry position.
+type Crowded = (u16, u32);
+
 /// Calls of `crowd`, whose values are ten times their numbers behind 100: its line after an event.
-fn crowded(front: &str, numbers: &[u16], rest: &str) -> String {
-    let values: Vec<[i32; 1]> = numbers.iter().map(|n| [crowd_value(*n)]).collect();
-    let calls = numbers.iter().zip(&values);
-    let calls: Vec<Call> = calls.map(|(n, v)| (*n, unit_of(*n), &v[..])).collect();
-    let checkers = numbers.iter().flat_map(|n| {
+fn crowded(front: &str, open: &[Crowded], rest: &str) -> String {
+    let values: Vec<[i32; 1]> = open.iter().map(|(n, _)| [crowd_value(*n)]).collect();
+    let calls = open.iter().zip(&values);
+    let calls: Vec<Call> = calls
+        .map(|((n, at), v)| (*n, unit_of(*n), *at, &v[..]))
+        .collect();
+    let checkers = open.iter().flat_map(|(n, _)| {
         let templates = CREATED[usize::from(unit_of(*n))];
         templates.map(|template| (*n, template))
     });
@@ -445,16 +488,27 @@ fn crowd_value(number: u16) -> i32 {
     10 * (i32::from(number) - 100)
 }
 
+/// Calls 100 to 115, entered one after the other.
+fn crowd_calls() -> Vec<Crowded> {
+    (100..=115).zip(1..).collect()
+}
+
+/// The same without one.
+fn crowd_without(number: u16) -> Vec<Crowded> {
+    let mut calls = crowd_calls();
+    calls.retain(|(other, _)| *other != number);
+    calls
+}
+
 /// Calls 100 to 115 open, of units 0 and 1 by turns, with four checkers each. Saves the state.
-fn crowd_state(script: &mut Script) {
+pub(crate) fn crowd_state(script: &mut Script) {
     script.sort = Sort::Filling;
     script.rules(&crowd().bytes());
     script.fresh("accepted");
-    let numbers: Vec<u16> = (100..=115).collect();
-    for count in 1..=16 {
-        let number = numbers[count - 1];
-        let line = crowded("", &numbers[..count], &format!(" p={count}"));
-        let event = entry(unit_of(number), number, &[crowd_value(number)]);
+    let calls = crowd_calls();
+    for (count, (number, position)) in (1..).zip(&calls) {
+        let line = crowded("", &calls[..count], &format!(" p={position}"));
+        let event = entry(unit_of(*number), *number, &[crowd_value(*number)]);
         script.step(&event, &line);
     }
     script.save();
@@ -468,18 +522,18 @@ fn filling(script: &mut Script) {
         script.offer(&entry(unit, 115, &[1]), "refused 13");
         script.offer(&exit(unit, 99, &[1]), "refused 15");
     }
-    for number in 100..=115 {
-        left_first(script, number);
+    for (number, entered) in crowd_calls() {
+        left_first(script, number, entered);
     }
     script.restore();
-    let mut left: Vec<u16> = (100..=115).collect();
+    let mut left = crowd_calls();
     for (number, position) in [
         101, 114, 115, 100, 108, 107, 102, 113, 103, 112, 104, 111, 105, 110, 106, 109,
     ]
     .iter()
     .zip(17..)
     {
-        left.retain(|other| other != number);
+        left.retain(|(other, _)| other != number);
         let line = crowded("", &left, &format!(" p={position}"));
         let event = exit(unit_of(*number), *number, &[crowd_value(*number)]);
         script.step(&event, &line);
@@ -488,20 +542,21 @@ fn filling(script: &mut Script) {
 }
 
 /// One of sixteen calls left with the value at entry, with another call's, and with one below 0.
-fn left_first(script: &mut Script, number: u16) {
-    let unit = unit_of(number);
-    let left: Vec<u16> = (100..=115).filter(|other| *other != number).collect();
+fn left_first(script: &mut Script, number: u16, entered: u32) {
+    let (unit, left) = (unit_of(number), crowd_without(number));
     script.offer(&exit(1 - unit, number, &[1]), "refused 15");
     let line = crowded("", &left, " p=17");
     script.offer(&exit(unit, number, &[crowd_value(number)]), &line);
     // Two templates fail below 0, of which the lower one is created later.
     let lowest = 2 * unit;
-    let rest = format!(" p=17 violated 17 state - triple {lowest}");
+    let broken =
+        |bad: &str| format!(" p=17 violated 17 state {bad} triple {lowest} entry {entered}");
     let other = crowd_value(100 + (number - 98) % 16);
-    script.offer(&exit(unit, number, &[other]), &crowded("", &left, &rest));
+    let line = crowded("", &left, &broken("-"));
+    script.offer(&exit(unit, number, &[other]), &line);
     let line = match unit {
-        0 => crowded("", &left, &rest),
-        _ => crowded(" m=1", &left, " p=17 violated 17 state 1 triple 2"),
+        0 => line,
+        _ => crowded(" m=1", &left, &broken("1")),
     };
     script.offer(&exit(unit, number, &[-7]), &line);
 }
@@ -509,14 +564,13 @@ fn left_first(script: &mut Script, number: u16) {
 /// Fifteen calls, then sixteen again, with the last place for the number that came again.
 fn refilling(script: &mut Script) {
     for number in [107, 100, 115] {
-        let unit = unit_of(number);
-        let mut open: Vec<u16> = (100..=115).filter(|other| *other != number).collect();
+        let (unit, mut open) = (unit_of(number), crowd_without(number));
         script.restore();
         let event = exit(unit, number, &[crowd_value(number)]);
         script.step(&event, &crowded("", &open, " p=17"));
         script.offer(&entry(unit, 108, &[1]), "refused 13");
         script.offer(&entry(1 - unit, number, &[1]), "taken");
-        open.push(number);
+        open.push((number, 18));
         let event = entry(unit, number, &[crowd_value(number)]);
         script.step(&event, &crowded("", &open, " p=18"));
         script.offer(&entry(unit, number + 100, &[1]), "refused 14");
@@ -667,8 +721,8 @@ fn soundness(script: &mut Script) {
 
 fn positions(script: &mut Script) {
     shared_cases::positions(script);
-    let (seven, eight, nine): (Call, Call, Call) =
-        ((7, 0, &[2, 1]), (8, 1, &[3, 4]), (9, 0, &[1, 3]));
+    let (seven, eight): (Call, Call) = ((7, 0, 1, &[2, 1]), (8, 1, 2, &[3, 4]));
+    let nine: Call = (9, 0, LAST, &[1, 3]);
     let (of_seven, of_eight) = ([(7, 0), (7, 3)], [(8, 4)]);
     let of_nine = [(9, 0), (9, 1), (9, 3), (9, 5)];
     let mut last = |event: Record, line: String, after: u8| {
@@ -685,11 +739,11 @@ fn positions(script: &mut Script) {
         " m=1 x0=7 x1=-1",
         &[eight],
         &of_eight,
-        &format!("{end}- triple 0"),
+        &format!("{end}- triple 0 entry 1"),
     );
     last(exit(0, 7, &[2, 3]), line, 10);
-    for (value, template) in [(3, "-"), (2, "4")] {
-        let rest = format!("{end}2 triple {template}");
+    for (value, template, entered) in [(3, "-", 0), (2, "4", 2)] {
+        let rest = format!("{end}2 triple {template} entry {entered}");
         let line = taken(" m=2 x0=6 x1=-1", &[seven], &of_seven, &rest);
         last(exit(1, 8, &[1, value]), line, 10);
     }
@@ -783,6 +837,11 @@ fn reading(script: &mut Script) {
     shared_cases::reading(script, &refused_networks(least, &good));
 }
 
+fn reading_before_entries(script: &mut Script) {
+    let good = Network::of_sheet(&base());
+    entry_clauses::reading(script, &refused_networks(least, &good));
+}
+
 // ---- Logs -------------------------------------------------------------------------------------
 
 /// On networks that no sheet has.
@@ -791,14 +850,14 @@ fn logs_by_hand(script: &mut Script) {
     script.rules(&hand().bytes());
     let mut run = |records: &[Record], line: &str| script.run_records(1, records, line);
     let (seven, eight) = (entry(0, 7, &[3]), entry(0, 8, &[3]));
-    run(&[entry(1, 7, &[3])], "violated 1 state 2 triple -");
+    run(&[entry(1, 7, &[3])], "violated 1 state 2 triple - entry -");
     run(std::slice::from_ref(&seven), "clean 1 state 1 open 1");
     let exits: [(Record, &str); 9] = [
         (exit(0, 8, &[9]), "clean 3 state 0 open 1"),
-        (exit(0, 8, &[4]), "violated 3 state 2 triple -"),
-        (exit(0, 8, &[3]), "violated 3 state 2 triple 1"),
-        (exit(0, 7, &[9]), "violated 3 state - triple 0"),
-        (exit(0, 7, &[2]), "violated 3 state 2 triple 0"),
+        (exit(0, 8, &[4]), "violated 3 state 2 triple - entry -"),
+        (exit(0, 8, &[3]), "violated 3 state 2 triple 1 entry 2"),
+        (exit(0, 7, &[9]), "violated 3 state - triple 0 entry 1"),
+        (exit(0, 7, &[2]), "violated 3 state 2 triple 0 entry 1"),
         (exit(1, 7, &[9]), "refused 15 at 3"),
         (exit(0, 9, &[9]), "refused 15 at 3"),
         (entry(1, 8, &[9]), "refused 13 at 3"),
@@ -817,6 +876,9 @@ fn logs_by_hand(script: &mut Script) {
 /// A run's line where one event more came first and one call more is open.
 fn later(line: &str) -> String {
     let line = line.replace(" 3 state", " 4 state").replace("at 3", "at 4");
+    let line = line
+        .replace("entry 2", "entry 3")
+        .replace("entry 1", "entry 2");
     line.replace("open 1", "open 2")
 }
 
@@ -836,9 +898,9 @@ fn crowd_logs(script: &mut Script) {
         records[place].values = vec![value];
         script.run_records(1, &records, line);
     };
-    wrong(16, 1, "violated 17 state - triple 0");
-    wrong(17, -1, "violated 18 state 1 triple 2");
-    wrong(31, 1, "violated 32 state - triple 2");
+    wrong(16, 1, "violated 17 state - triple 0 entry 1");
+    wrong(17, -1, "violated 18 state 1 triple 2 entry 6");
+    wrong(31, 1, "violated 32 state - triple 2 entry 12");
     let mut full = records[..16].to_vec();
     full.push(entry(0, 99, &[0]));
     script.run_records(1, &full, "refused 14 at 17");
@@ -889,8 +951,8 @@ fn random_cases(script: &mut Script) {
 
 // ---- All --------------------------------------------------------------------------------------
 
-/// The chosen cases on networks that are accepted.
-const CHOSEN: [fn(&mut Script); 11] = [
+/// The chosen cases on networks that are accepted, but for the refusals together.
+const CHOSEN: [fn(&mut Script); 10] = [
     document,
     creating,
     pairs,
@@ -899,12 +961,38 @@ const CHOSEN: [fn(&mut Script); 11] = [
     values,
     soundness,
     positions,
-    refusals_together,
     shared_cases::logs,
     logs_by_hand,
 ];
 
-/// The first page has no room for more.
+/// The refusals together, and what 9 asks about entry positions: of version 2 and of version 3.
+fn refusals() -> [Page; 2] {
+    let [calls, sixteen, verdicts, others] = entry_clauses::parts();
+    let parts = [
+        refusals_together,
+        calls,
+        sixteen,
+        entry_clauses::of_sixty_four,
+        verdicts,
+        others,
+    ];
+    let carried_over = card_cases::page_in_version_3(&Script::of(&parts));
+    let reading = Script::of(&[card_cases::reading_before_entries]);
+    [
+        Script::of(&[&parts[..], &[reading_before_entries]].concat()),
+        carried_over.into_iter().chain(reading).collect(),
+    ]
+}
+
+/// Where calls were entered: of version 2, random ones of both; then of version 3.
+fn entries() -> [Page; 4] {
+    let long = entry_positions::long_page::<Network>();
+    let carried_over = [entry_positions::chosen::<Network>(), long];
+    let [chosen, long_cards] = carried_over.each_ref().map(card_cases::page_in_version_3);
+    let [_, long] = carried_over;
+    [entry_positions::page::<Network>(), long, chosen, long_cards]
+}
+
 pub fn all() -> Vec<Page> {
     let first = Script::of(&[&CHOSEN[..], &[reading, random_cases]].concat());
     let carried_over = Script::of(&CHOSEN);
@@ -916,6 +1004,8 @@ pub fn all() -> Vec<Page> {
         card_cases::pages(&carried_over),
         vec![card_cases::page_in_version_3(&ends)],
         counting_pairs::pages().into(),
+        refusals().into(),
+        entries().into(),
     ]
     .into_iter()
     .flatten()

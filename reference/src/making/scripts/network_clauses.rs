@@ -220,7 +220,6 @@ pub const BASE_CLAUSES: &[Clause] = &[
     Shared::IS_BAD,
     Shared::EXISTS,
     Shared::HAS_VERDICT,
-    Shared::POSITION,
 ];
 
 // ---- Sixty-four checkers: templates 0 to 4, of which 2 and 4 are of unit 1; calls 100 to 115, of units
@@ -319,7 +318,7 @@ pub const CROWD_CLAUSES: &[Clause] = &[
 
 pub const TINY_CLAUSES: &[Clause] = &[clause(
     &[],
-    &[&[], &[(Position, 0)], &[(Open, 2), (Number(1), 65_535)]],
+    &[&[], &[(Position, 2)], &[(Open, 2), (Number(1), 65_535)]],
     &[
         &[(Main, 1)],
         &[(Main, 255)],

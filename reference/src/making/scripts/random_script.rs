@@ -8,6 +8,7 @@ use crate::implementation::state::Cause;
 use crate::making::generate::{self, Manner, Shape};
 use crate::making::random::Random;
 use crate::making::scripts::script::{entry, offer, Row, Script, Sort};
+use crate::making::scripts::settling::settling;
 use crate::making::scripts::shared_cases::{Near, Subject, LAST};
 
 /// The most events of a run.
@@ -110,7 +111,7 @@ fn random_field<R: Subject>(random: &mut Random, rules: &R, bench: &Bench<R>) ->
         number,
         cause,
     };
-    let own = usize::from(R::Own::COUNT);
+    let own = usize::from(R::Own::BEFORE);
     match random.below(11 + own) {
         0 => (Field::Main, state.into()),
         1 => (Field::Variable(number), random.word() as u32),
@@ -136,8 +137,8 @@ fn random_unit(random: &mut Random, header: &Header) -> u32 {
     random.below(usize::from(header.units) + 1) as u32
 }
 
-/// One to three fields, and whether the state is sound with them.
-fn random_fields<R: Subject + Clone>(
+/// One to three fields, entry positions that go with them, and whether the state is sound with all.
+fn random_fields<R: Subject>(
     random: &mut Random,
     rules: &R,
     start: &Bench<R>,
@@ -149,11 +150,15 @@ fn random_fields<R: Subject + Clone>(
         bench.carry_out(&Frame::Set(field, value));
         fields.push((field, value));
     }
+    for (field, value) in settling(&bench) {
+        bench.carry_out(&Frame::Set(field, value));
+        fields.push((field, value));
+    }
     (fields, rules.is_sound(&bench.state))
 }
 
 /// States near the one that the runs ended in. Every other one is drawn again until it is sound.
-fn shaken<R: Subject + Clone>(script: &mut Script<R>, random: &mut Random, rules: &R) {
+fn shaken<R: Subject>(script: &mut Script<R>, random: &mut Random, rules: &R) {
     script.sort = Sort::Shaken;
     script.save();
     for number in 0..SHAKEN {
@@ -215,7 +220,7 @@ fn taken_events<O>(rows: &[Row<O>]) -> Vec<Record> {
 }
 
 /// The state that the runs before ended in, two runs, their logs, and states near the last.
-pub fn on_rules<R: Subject + Clone>(script: &mut Script<R>, random: &mut Random, bytes: &[u8]) {
+pub fn on_rules<R: Subject>(script: &mut Script<R>, random: &mut Random, bytes: &[u8]) {
     let Ok(rules) = <R as Engine>::read(bytes) else {
         return; // Does not happen: drafts are made to be accepted.
     };

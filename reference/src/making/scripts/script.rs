@@ -40,6 +40,8 @@ pub enum Sort {
     Ends,
     /// Preconditions and pairs that read monitor variables.
     Preconditions,
+    /// Where calls were entered.
+    Entries,
 }
 
 /// A frame, the line that the reference gives for it, and the answer written down by hand.

@@ -12,7 +12,7 @@ use crate::making::draft::SheetDraft;
 use crate::making::random::Random;
 use crate::making::random_ends;
 use crate::making::scripts::script::{self, entry, exit, Page, Script, Sort};
-use crate::making::scripts::shared_cases::{held, ran, taken, Subject};
+use crate::making::scripts::shared_cases::{broken, held, ran, taken, Subject};
 use crate::making::scripts::walk::{Leaves, Walk};
 
 const LEAST: i32 = i32::MIN;
@@ -216,14 +216,14 @@ fn more_than<R: Subject>(script: &mut Script<R>) {
         }
         last.push(entry(1, 100, &[0]));
         let is_bad = calm < counts.len();
-        let (asked, cause) = (4 * calm as u32 + 3, Some(Cause::State(1)));
+        let (asked, bad) = (4 * calm as u32 + 3, broken(Some(Cause::State(1)), 0));
         let line = match is_bad {
-            true => ran(1, 1, asked, cause),
+            true => ran(1, 1, asked, bad),
             false => ran(0, 0, records.len() as u32, None),
         };
         script.run_records(1, &records, &line);
-        let cause = cause.filter(|_| is_bad);
-        let line = ran(is_bad.into(), 1, last.len() as u32, cause);
+        let bad = bad.filter(|_| is_bad);
+        let line = ran(is_bad.into(), 1, last.len() as u32, bad);
         script.run_records(1, &last, &line);
     }
 }
@@ -279,14 +279,14 @@ fn guarding<R: Subject>(script: &mut Script<R>) {
     script.fresh("accepted");
     for (unit, value) in (0..5).flat_map(|u| NEAR.map(|value| (u, value))) {
         let enters = entry(unit, 7, &[value]);
-        let (main, cause) = match is_led_on(unit, value) {
+        let (main, bad) = match is_led_on(unit, value) {
             true => (1, None),
-            false => (BAD, Some(Cause::State(BAD))),
+            false => (BAD, broken(Some(Cause::State(BAD)), 0)),
         };
-        let open = [(held(&enters), Vec::new())];
-        let line = taken::<R>((main, [0; 4]), &open, 1, cause);
+        let open = [(held(&enters, 1), Vec::new())];
+        let line = taken::<R>((main, [0; 4]), &open, 1, bad);
         script.offer(&enters, &line);
-        script.run_records(1, &[enters], &ran(main, 1, 1, cause));
+        script.run_records(1, &[enters], &ran(main, 1, 1, bad));
     }
 }
 
@@ -381,7 +381,7 @@ fn conditions<R: Subject>(script: &mut Script<R>) {
     script.save();
     for (unit, entered) in (0..4).flat_map(|u| ENTERED.map(|e| (u, e))) {
         let enters = entry(unit, 7, &[entered]);
-        let (call, triples) = (held(&enters), armed(unit, entered));
+        let (call, triples) = (held(&enters, 1), armed(unit, entered));
         let open = [(call, triples.clone())];
         script.restore();
         let line = taken::<R>((0, [0; 4]), &open, 1, None);
@@ -389,12 +389,12 @@ fn conditions<R: Subject>(script: &mut Script<R>) {
         for left in left_with(entered) {
             let fails = |triple: &&u8| !is_kept(**triple, entered, left);
             let lowest = triples.iter().find(fails).copied();
-            let cause = Cause::new(None, lowest);
+            let failed = broken(Cause::new(None, lowest), 1);
             let leaves = exit(unit, 7, &[left]);
-            let line = taken::<R>((0, [0; 4]), &[], 2, cause);
+            let line = taken::<R>((0, [0; 4]), &[], 2, failed);
             script.offer(&leaves, &line);
             let records = [enters.clone(), leaves];
-            script.run_records(1, &records, &ran(0, 0, 2, cause));
+            script.run_records(1, &records, &ran(0, 0, 2, failed));
         }
     }
 }

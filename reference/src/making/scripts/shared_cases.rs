@@ -8,16 +8,19 @@ use crate::making::cases::sheet_cases::LOG_A;
 use crate::making::draft::SheetDraft;
 use crate::making::random::Random;
 use crate::making::scripts::script::{entry, event, exit, refused, Script, Sort};
+use crate::making::scripts::settling::{settling, Settling};
 use crate::making::scripts::shared_clauses::Clause;
 
 /// What these cases have to be told of sheets or networks.
-pub trait Subject: Rules {
+pub trait Subject: Rules + Clone {
     /// The lines behind `taken` of the two entries of `base_state`.
     const BASE_LINES: [&'static str; 2];
     /// That of the entry of `edge_state`.
     const EDGE_LINE: &'static str;
     /// Ways to break soundness that leave the rest of a state as it is.
     const BREAKS: [Set<Self::Own>; 5];
+    /// The clauses on entry positions that only these states have, in the state of `entry_clauses`.
+    const ENTRY_CLAUSES: &'static [Clause<Self::Own>];
 
     /// The bytes of a sheet, or those of its network.
     fn of_sheet(draft: &SheetDraft) -> Vec<u8>;
@@ -25,6 +28,8 @@ pub trait Subject: Rules {
     fn like(random: &mut Random, draft: SheetDraft) -> Vec<u8>;
     /// One triple more is armed for the call at a place, the last so far.
     fn arm(state: &mut Self::State, place: usize, triple: u8);
+    /// The entry positions that checkers must be given: their calls', or none where there is no checker.
+    fn settling_checkers(state: &Self::State) -> Vec<Set<Self::Own>>;
     /// One of the fields that only these states have, by its number, near what the state holds.
     fn own_field(
         random: &mut Random,
@@ -129,7 +134,7 @@ pub fn tiny_state<R: Subject>(script: &mut Script<R>) {
     script.sort = Sort::Reached;
     script.rules(&R::of_sheet(&tiny()));
     script.fresh("accepted");
-    script.step(&entry(0, 7, &[]), "taken o=1 n0=7 p=1");
+    script.step(&entry(0, 7, &[]), "taken o=1 n0=7 e0=1 p=1");
     script.save();
 }
 
@@ -146,13 +151,28 @@ pub fn edge_state<R: Subject>(script: &mut Script<R>) {
 
 // ---- Lines of taken events and of runs --------------------------------------------------------
 
+/// What an event breaks: the cause, and the entry position of the call that broke the triple.
+#[derive(Clone, Copy, Debug)]
+pub struct Broken {
+    pub cause: Cause,
+    pub entry: u32,
+}
+
+/// By a call that was entered there. No entry position goes with a bad state alone.
+pub fn broken(cause: Option<Cause>, entered: u32) -> Option<Broken> {
+    cause.map(|cause| Broken {
+        cause,
+        entry: cause.triple().map_or(0, |_| entered),
+    })
+}
+
 /// The line of a taken event: main state, variables, open calls with the triples armed for each,
 /// position and verdict.
 pub fn taken<R: Subject>(
     (main, variables): (u8, [i32; 4]),
     open: &[(Call, Vec<u8>)],
     position: u32,
-    cause: Option<Cause>,
+    broken: Option<Broken>,
 ) -> String {
     let mut state = R::State::default();
     for (place, (call, triples)) in open.iter().enumerate() {
@@ -163,32 +183,39 @@ pub fn taken<R: Subject>(
     }
     let common = R::common_mut(&mut state);
     (common.main, common.variables, common.position) = (main, variables, position);
-    common.verdict = cause.map(|cause| Verdict { position, cause });
+    common.verdict = broken.map(|Broken { cause, entry }| Verdict {
+        position,
+        cause,
+        entry,
+    });
     common.open = open.len() as u8;
     format!("taken{}", state_text::<R>(&state))
 }
 
-/// The call that an entry opens.
-pub fn held(entry: &Record) -> Call {
+/// The call that an entry at this position opens.
+pub fn held(event: &Record, position: u32) -> Call {
     let mut call = Call {
-        number: entry.call,
-        unit: entry.unit,
+        number: event.call,
+        unit: event.unit,
+        entry: position,
         ..Call::default()
     };
-    for (kept, value) in call.kept.iter_mut().zip(&entry.values) {
+    for (kept, value) in call.kept.iter_mut().zip(&event.values) {
         *kept = *value;
     }
     call
 }
 
 /// A run's line: main state, open calls, position and verdict.
-pub fn ran(main: u8, open: usize, position: u32, cause: Option<Cause>) -> String {
-    let dash = |number: Option<u8>| number.map_or("-".to_string(), |n| n.to_string());
-    match cause {
+pub fn ran(main: u8, open: usize, position: u32, broken: Option<Broken>) -> String {
+    let dash = |number: Option<u32>| number.map_or("-".to_string(), |n| n.to_string());
+    match broken {
         None => format!("clean {position} state {main} open {open}"),
-        Some(cause) => {
-            let (state, triple) = (dash(cause.state()), dash(cause.triple()));
-            format!("violated {position} state {state} triple {triple}")
+        Some(Broken { cause, entry }) => {
+            let (state, triple) = (cause.state(), cause.triple());
+            let entry = dash(triple.map(|_| entry));
+            let (state, triple) = (dash(state.map(u32::from)), dash(triple.map(u32::from)));
+            format!("violated {position} state {state} triple {triple} entry {entry}")
         }
     }
 }
@@ -199,10 +226,10 @@ pub fn ran(main: u8, open: usize, position: u32, cause: Option<Cause>) -> String
 pub fn document_runs<R: Rules>(script: &mut Script<R>) {
     script.sort = Sort::Log;
     let start = entry(0, 7, &[8, 0]);
-    script.run(&LOG_A, "violated 2 state - triple 0");
+    script.run(&LOG_A, "violated 2 state - triple 0 entry 1");
     for (value, line) in [
         (8, "clean 2 state 0 open 0"),
-        (7, "violated 2 state - triple 0"),
+        (7, "violated 2 state - triple 0 entry 1"),
     ] {
         let records = [start.clone(), exit(0, 7, &[value, value])];
         script.run_records(2, &records, line);
@@ -247,33 +274,46 @@ impl Events {
     }
 }
 
-/// Each clause: its sound neighbours and then what breaks it, with two events each.
-pub fn clauses<R: Rules>(script: &mut Script<R>, clauses: &[Clause<R::Own>], events: &Events) {
+/// Each clause: its sound neighbours and then what breaks it, with two events each. All have entry positions
+/// that fit.
+pub fn clauses<R: Subject>(script: &mut Script<R>, clauses: &[Clause<R::Own>], events: &Events) {
+    clauses_of(script, clauses, events, settling);
+}
+
+/// The same, with what is to be done to each state behind its changes.
+pub fn clauses_of<R: Subject>(
+    script: &mut Script<R>,
+    clauses: &[Clause<R::Own>],
+    events: &Events,
+    settling: Settling<R>,
+) {
     for clause in clauses {
-        script.sort = Sort::Neighbour;
-        let judged = clause.judged.then_some("refused 10");
-        changes(script, clause.before, clause.sound, events, judged);
-        script.sort = Sort::Broken;
-        let unsound = Some("refused 9");
-        changes(script, clause.before, clause.broken, events, unsound);
+        for (sort, states, answer) in [
+            (Sort::Neighbour, clause.sound, clause.answer),
+            (Sort::Broken, clause.broken, Some("refused 9")),
+        ] {
+            script.sort = sort;
+            for change in states {
+                let change = [clause.before, change].concat();
+                changed(script, &change, events, answer, settling);
+            }
+        }
     }
 }
 
-/// Each change with an entry and an exit, which have one answer or that written beside them.
-fn changes<R: Rules>(
+/// Changes of the saved state, with two events, which have one answer or those written beside them.
+pub fn changed<R: Subject>(
     script: &mut Script<R>,
-    before: &[Set<R::Own>],
-    all: &[&[Set<R::Own>]],
+    change: &[Set<R::Own>],
     events: &Events,
-    one: Option<&str>,
+    answer: Option<&str>,
+    settling: Settling<R>,
 ) {
-    for change in all {
-        script.restore();
-        script.set(before);
-        script.set(change);
-        script.offer(&events.entry, one.unwrap_or(events.entry_answer));
-        script.offer(&events.exit, one.unwrap_or(events.exit_answer));
-    }
+    script.restore();
+    script.set(change);
+    script.set(&settling(&script.bench));
+    script.offer(&events.entry, answer.unwrap_or(events.entry_answer));
+    script.offer(&events.exit, answer.unwrap_or(events.exit_answer));
 }
 
 /// Clauses on the base; the next two are on the smallest sheet and on that with every count at its
@@ -306,10 +346,11 @@ pub fn positions<R: Subject>(script: &mut Script<R>) {
     script.sort = Sort::Position;
     let (opens, closes) = (entry(0, 9, &[1, 3]), exit(0, 7, &[2, 2]));
     for position in [0, 1, 0x7FFF_FFFF, 0x8000_0000, LAST - 2, LAST - 1, LAST] {
-        let answer = if position == LAST {
-            "refused 12"
-        } else {
-            "taken"
+        let answer = match position {
+            // Calls 7 and 8 were entered later.
+            0 | 1 => "refused 9",
+            LAST => "refused 12",
+            _ => "taken",
         };
         script.restore();
         script.set(&[(Field::Position, position)]);
@@ -384,7 +425,8 @@ fn lay_out<R: Subject>(script: &mut Script<R>, met: &[u8], choice: usize) {
         script.set(&[R::BREAKS[choice % R::BREAKS.len()]]);
     }
     if met.contains(&10) {
-        script.set(&[(Field::Failed(choice as u8 % 8), position)]);
+        let failed = Field::Failed(choice as u8 % 8);
+        script.set(&[(failed, position), (Field::Carried, 1)]);
     }
 }
 
@@ -456,7 +498,10 @@ fn reading_states<O>() -> [(Vec<Set<O>>, Record); 5] {
     [
         (vec![], entry(0, 9, &[1, 3])),
         (vec![(Field::Main, 255)], exit(0, 7, &[2, 2])),
-        (vec![(Field::Failed(0), 2)], event(9, 9, 9, &[])),
+        (
+            vec![(Field::Failed(0), 2), (Field::Carried, 1)],
+            event(9, 9, 9, &[]),
+        ),
         (vec![(Field::Position, LAST)], entry(0, 7, &[1, 1])),
         (
             vec![(Field::Open, 200), (Field::BadState(9), 4)],
@@ -481,9 +526,9 @@ pub fn logs<R: Subject>(script: &mut Script<R>) {
         let judged = line.starts_with("violated") || line.starts_with("refused");
         script.run_records(2, &behind, if judged { line } else { "refused 11 at 4" });
     };
-    then(exit(1, 8, &[1, 3]), "violated 3 state 2 triple -");
-    then(exit(1, 8, &[1, 2]), "violated 3 state 2 triple 4");
-    then(exit(0, 7, &[2, 3]), "violated 3 state - triple 0");
+    then(exit(1, 8, &[1, 3]), "violated 3 state 2 triple - entry -");
+    then(exit(1, 8, &[1, 2]), "violated 3 state 2 triple 4 entry 2");
+    then(exit(0, 7, &[2, 3]), "violated 3 state - triple 0 entry 1");
     then(exit(0, 7, &[1, 2]), "clean 3 state 1 open 1");
     then(entry(0, 9, &[1, 2]), "clean 3 state 0 open 3");
     then(entry(0, 7, &[2, 1]), "refused 13 at 3");

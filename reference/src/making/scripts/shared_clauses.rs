@@ -8,8 +8,8 @@ use std::marker::PhantomData;
 /// What is set first, then in turn each of the sound and of the broken changes.
 #[derive(Clone, Copy)]
 pub struct Clause<O: 'static> {
-    /// The sound states have a verdict.
-    pub judged: bool,
+    /// What refuses events where the state is sound, if something does.
+    pub answer: Option<&'static str>,
     pub before: &'static [Set<O>],
     pub sound: &'static [&'static [Set<O>]],
     pub broken: &'static [&'static [Set<O>]],
@@ -21,20 +21,21 @@ pub const fn clause<O>(
     broken: &'static [&'static [Set<O>]],
 ) -> Clause<O> {
     Clause {
-        judged: false,
+        answer: None,
         before,
         sound,
         broken,
     }
 }
 
+/// The sound states have a verdict.
 pub const fn judged<O>(
     before: &'static [Set<O>],
     sound: &'static [&'static [Set<O>]],
     broken: &'static [&'static [Set<O>]],
 ) -> Clause<O> {
     Clause {
-        judged: true,
+        answer: Some("refused 10"),
         before,
         sound,
         broken,
@@ -135,13 +136,12 @@ impl<O: Own> Shared<O> {
         ],
     );
 
-    /// The position of a verdict by a bad state; 0 is one as any other (reading 9).
+    /// The position of a verdict by a bad state.
     pub const POSITION_OF_BAD: Clause<O> = judged(
         &[(Main, 2)],
         &[
             &[(BadState(2), 2)],
             &[(Both(2, 0), 2)],
-            &[(Position, 0), (BadState(2), 0)],
             &[(Position, MOST), (BadState(2), MOST)],
         ],
         &[
@@ -149,10 +149,10 @@ impl<O: Own> Shared<O> {
             &[(BadState(2), 3)],
             &[(BadState(2), 0)],
             &[(BadState(2), MOST)],
-            &[(Both(2, 0), 1)],
+            &[(Position, 3), (Both(2, 0), 2)],
             &[(Both(2, 0), 258)],
-            &[(Position, 0), (BadState(2), 2)],
-            &[(Position, 0), (Both(2, 0), MOST)],
+            &[(Position, 258), (BadState(2), 2)],
+            &[(Position, 255), (Both(2, 0), MOST)],
         ],
     );
 
@@ -161,15 +161,15 @@ impl<O: Own> Shared<O> {
         &[],
         &[
             &[(Failed(0), 2)],
-            &[(Position, 0), (Failed(0), 0)],
+            &[(Position, 3), (Failed(0), 3)],
             &[(Position, HIGH), (Failed(4), HIGH)],
         ],
         &[
-            &[(Failed(0), 1)],
+            &[(Position, 3), (Failed(0), 2)],
             &[(Failed(0), 3)],
-            &[(Failed(0), 0)],
+            &[(Position, 258), (Failed(0), 2)],
             &[(Failed(4), HIGH)],
-            &[(Position, 0), (Failed(0), 2)],
+            &[(Position, MOST), (Failed(0), 2)],
         ],
     );
 
@@ -224,11 +224,8 @@ impl<O: Own> Shared<O> {
     pub const HAS_VERDICT: Clause<O> = judged(
         &[],
         &[&[(Main, 3), (BadState(3), 2)]],
-        &[&[(Main, 2)], &[(Main, 3)], &[(Main, 2), (Position, 0)]],
+        &[&[(Main, 2)], &[(Main, 3)], &[(Main, 2), (Position, 77)]],
     );
-
-    /// Nothing relates the position to the calls (reading 9).
-    pub const POSITION: Clause<O> = clause(&[], &[&[(Position, 0)], &[(Position, 1)]], &[]);
 
     /// How many calls are open, where it is sixteen.
     pub const OPENED: Clause<O> = clause(

@@ -10,7 +10,7 @@ use crate::making::draft::SheetDraft;
 use crate::making::random::Random;
 use crate::making::scripts::random_script::ask_any;
 use crate::making::scripts::script::{entry, exit, Page, Script, Sort};
-use crate::making::scripts::shared_cases::{self, ran, Subject};
+use crate::making::scripts::shared_cases::{self, broken, ran, Broken, Subject};
 use crate::making::wide::{self, FIRST_UNIT, LAST_VALUE, LAST_VARIABLE};
 
 /// Generated sheets or networks of a page.
@@ -69,40 +69,60 @@ fn leaves(unit: u8, call: u16, last: i32) -> Record {
     exit(unit, call, &with_last(last))
 }
 
-/// An open call: its number, its unit and its last value at entry. Its triple is armed, but for an odd
-/// unit's with a value up to 4; units below 8 have none.
+/// An open call. Its triple is armed, but for an odd unit's with a last value up to 4; units below 8
+/// have none.
 #[derive(Clone, Copy, PartialEq)]
-struct Open(u16, u8, i32);
+struct Open {
+    number: u16,
+    unit: u8,
+    /// Its last value at entry.
+    last: i32,
+    /// Its entry position.
+    entry: u32,
+}
+
+const fn open(number: u16, unit: u8, last: i32, entry: u32) -> Open {
+    Open {
+        number,
+        unit,
+        last,
+        entry,
+    }
+}
 
 impl Open {
     fn triple(self) -> Option<u8> {
-        let Open(_, unit, last) = self;
-        let triple = unit.checked_sub(FIRST_UNIT);
-        triple.filter(|_| unit % 2 == 0 || last > 4)
+        let triple = self.unit.checked_sub(FIRST_UNIT);
+        triple.filter(|_| self.unit.is_multiple_of(2) || self.last > 4)
     }
 
     /// As a state holds it.
     fn held(self) -> Call {
-        let Open(number, unit, last) = self;
         Call {
-            number,
-            unit,
-            kept: with_last(last),
+            number: self.number,
+            unit: self.unit,
+            entry: self.entry,
+            kept: with_last(self.last),
         }
     }
 
     fn enters(self) -> Record {
-        enters(self.1, self.0, self.2)
+        enters(self.unit, self.number, self.last)
     }
 
     fn leaves(self, last: i32) -> Record {
-        leaves(self.1, self.0, last)
+        leaves(self.unit, self.number, last)
     }
 
     /// What is broken where it is left with this last value.
-    fn broken_by(self, last: i32) -> Option<Cause> {
-        let triple = self.triple().filter(|_| last != self.2);
-        triple.map(Cause::Triple)
+    fn broken_by(self, last: i32) -> Option<Broken> {
+        self.broken_in(None, last)
+    }
+
+    /// The same where its exit leads to this bad state, if to one.
+    fn broken_in(self, bad: Option<u8>, last: i32) -> Option<Broken> {
+        let triple = self.triple().filter(|_| last != self.last);
+        broken(Cause::new(bad, triple), self.entry)
     }
 }
 
@@ -111,13 +131,13 @@ fn taken<R: Subject>(
     state: (u8, [i32; 4]),
     open: &[Open],
     position: u32,
-    cause: Option<Cause>,
+    broken: Option<Broken>,
 ) -> String {
     let calls = open.iter().map(|call| (call.held(), call.triple()));
     let calls: Vec<(Call, Vec<u8>)> = calls
         .map(|(call, triple)| (call, triple.into_iter().collect()))
         .collect();
-    shared_cases::taken::<R>(state, &calls, position, cause)
+    shared_cases::taken::<R>(state, &calls, position, broken)
 }
 
 /// The chosen sheet's fresh state, saved.
@@ -150,7 +170,7 @@ fn behind<R: Subject>(script: &mut Script<R>, calls: &[Open], event: &Record, li
 fn units<R: Subject>(script: &mut Script<R>) {
     start(script);
     for (unit, last) in (8..16).flat_map(|unit| [(unit, 4), (unit, 5)]) {
-        let call = Open(0x0100 + u16::from(unit), unit, last);
+        let call = open(0x0100 + u16::from(unit), unit, last, 1);
         let mut variables = START;
         variables[3] = if unit == 8 { last.max(4) } else { 4 };
         script.restore();
@@ -158,7 +178,7 @@ fn units<R: Subject>(script: &mut Script<R>) {
         script.step(&call.enters(), &line);
         ask_last(script, call);
         leave_each_way(script, call, variables);
-        let other = leaves(unit - FIRST_UNIT, call.0, last);
+        let other = leaves(unit - FIRST_UNIT, call.number, last);
         behind(script, &[call], &other, ["refused 15", "refused 15 at 2"]);
     }
     units_below(script);
@@ -167,13 +187,13 @@ fn units<R: Subject>(script: &mut Script<R>) {
 /// The same events of the units that are 8 less: nothing is armed, and nothing leads on.
 fn units_below<R: Subject>(script: &mut Script<R>) {
     for unit in 0..8 {
-        let call = Open(0x0100 + u16::from(unit), unit, 5);
+        let call = open(0x0100 + u16::from(unit), unit, 5, 1);
         script.restore();
         enter_all(script, &[call]);
         let line = taken::<R>((0, START), &[], 2, None);
         let lines = [&line[..], &ran(0, 0, 2, None)];
         behind(script, &[call], &call.leaves(6), lines);
-        let other = leaves(unit + FIRST_UNIT, call.0, 5);
+        let other = leaves(unit + FIRST_UNIT, call.number, 5);
         behind(script, &[call], &other, ["refused 15", "refused 15 at 2"]);
     }
 }
@@ -181,10 +201,10 @@ fn units_below<R: Subject>(script: &mut Script<R>) {
 /// The exit of the only call with several last values. One of unit 10 over 4 leads to state 1.
 fn leave_each_way<R: Subject>(script: &mut Script<R>, call: Open, variables: [i32; 4]) {
     for left in [5, 4, 0, 6] {
-        let main = u8::from(call.1 == 10 && left > 4);
-        let cause = call.broken_by(left);
-        let line = taken::<R>((main, variables), &[], 2, cause);
-        let lines = [&line[..], &ran(main, 0, 2, cause)];
+        let main = u8::from(call.unit == 10 && left > 4);
+        let broken = call.broken_by(left);
+        let line = taken::<R>((main, variables), &[], 2, broken);
+        let lines = [&line[..], &ran(main, 0, 2, broken)];
         behind(script, &[call], &call.leaves(left), lines);
     }
 }
@@ -193,7 +213,7 @@ fn leave_each_way<R: Subject>(script: &mut Script<R>, call: Open, variables: [i3
 fn ask_last<R: Subject>(script: &mut Script<R>, call: Open) {
     let (front, last) = (
         "k0.0=11 k0.1=12 k0.2=13 k0.3=14 k0.4=15 k0.5=16 k0.6=17",
-        call.2,
+        call.last,
     );
     match call.triple() {
         Some(_) if R::Own::CHECKERS => script.ask(0, &format!("entry 0 {front} k0.7={last}")),
@@ -207,15 +227,15 @@ fn ask_last<R: Subject>(script: &mut Script<R>, call: Open) {
 /// Two calls of one unit that differ in their numbers' high byte and in the last value at entry.
 fn kept_values<R: Subject>(script: &mut Script<R>) {
     start(script);
-    let calls = [Open(0x0201, 14, 1), Open(0x0301, 14, 2)];
+    let calls = [open(0x0201, 14, 1, 1), open(0x0301, 14, 2, 2)];
     enter_all(script, &calls);
     for (place, left) in [0, 1]
         .into_iter()
         .flat_map(|p| [0, 1, 2, 3].map(|l| (p, l)))
     {
-        let cause = calls[place].broken_by(left);
-        let line = taken::<R>((0, START), &[calls[1 - place]], 3, cause);
-        let lines = [&line[..], &ran(0, 1, 3, cause)];
+        let broken = calls[place].broken_by(left);
+        let line = taken::<R>((0, START), &[calls[1 - place]], 3, broken);
+        let lines = [&line[..], &ran(0, 1, 3, broken)];
         behind(script, &calls, &calls[place].leaves(left), lines);
     }
     bytes_of_the_last(script);
@@ -223,14 +243,14 @@ fn kept_values<R: Subject>(script: &mut Script<R>) {
 
 /// A last value of four bytes, of which each in turn is another at exit.
 fn bytes_of_the_last<R: Subject>(script: &mut Script<R>) {
-    let call = Open(0x0401, 12, 0x0102_0384);
+    let call = open(0x0401, 12, 0x0102_0384, 1);
     script.restore();
     enter_all(script, &[call]);
     for change in [0, 1, 0x0100, 0x0001_0000, 0x0100_0000, i32::MIN] {
-        let left = call.2 ^ change;
-        let cause = call.broken_by(left);
-        let line = taken::<R>((0, START), &[], 2, cause);
-        let lines = [&line[..], &ran(0, 0, 2, cause)];
+        let left = call.last ^ change;
+        let broken = call.broken_by(left);
+        let line = taken::<R>((0, START), &[], 2, broken);
+        let lines = [&line[..], &ran(0, 0, 2, broken)];
         behind(script, &[call], &call.leaves(left), lines);
     }
 }
@@ -241,7 +261,7 @@ fn bytes_of_the_last<R: Subject>(script: &mut Script<R>) {
 fn variables<R: Subject>(script: &mut Script<R>) {
     start(script);
     for last in [8, 9, 10] {
-        let calls = [Open(0x010B, 11, 5), Open(0x0108, 8, last)];
+        let calls = [open(0x010B, 11, 5, 1), open(0x0108, 8, last, 2)];
         script.restore();
         enter_all(script, &calls[..1]);
         let line = taken::<R>((0, [1, 2, 3, last]), &calls, 2, None);
@@ -255,7 +275,7 @@ fn variables<R: Subject>(script: &mut Script<R>) {
 /// Only 9 lets an entry of unit 9 on, and an exit of unit 11 into the bad state.
 fn led_by_variable<R: Subject>(script: &mut Script<R>, calls: [Open; 2], last: i32) {
     let [eleven, eight] = calls;
-    let nine = Open(0x0109, 9, 4);
+    let nine = open(0x0109, 9, 4, 3);
     let (main, first, bad) = if last == 9 {
         (1, 9, Some(2))
     } else {
@@ -265,10 +285,9 @@ fn led_by_variable<R: Subject>(script: &mut Script<R>, calls: [Open; 2], last: i
     let lines = [&line[..], &ran(main, 3, 3, None)];
     behind(script, &calls, &nine.enters(), lines);
     for left in [5, 6] {
-        let triple = eleven.broken_by(left).and_then(Cause::triple);
-        let (main, cause) = (bad.unwrap_or(0), Cause::new(bad, triple));
-        let line = taken::<R>((main, [1, 2, 3, last]), &[eight], 3, cause);
-        let lines = [&line[..], &ran(main, 1, 3, cause)];
+        let (main, broken) = (bad.unwrap_or(0), eleven.broken_in(bad, left));
+        let line = taken::<R>((main, [1, 2, 3, last]), &[eight], 3, broken);
+        let lines = [&line[..], &ran(main, 1, 3, broken)];
         behind(script, &calls, &eleven.leaves(left), lines);
     }
 }
@@ -278,7 +297,7 @@ fn variable_set<R: Subject>(script: &mut Script<R>) {
     for (value, main, first) in [(9, 1, 9), (8, 0, 1), (0, 0, 1), (265, 0, 1), (-9, 0, 1)] {
         script.restore();
         script.set(&[(Field::Variable(LAST_VARIABLE), value as u32)]);
-        let nine = Open(0x0109, 9, 5);
+        let nine = open(0x0109, 9, 5, 1);
         let line = taken::<R>((main, [first, 2, 3, value]), &[nine], 1, None);
         script.offer(&nine.enters(), &line);
     }
@@ -286,7 +305,11 @@ fn variable_set<R: Subject>(script: &mut Script<R>) {
 
 /// From state 1 an exit of unit 12 leads back where its last value is over the last variable, 9.
 fn back_again<R: Subject>(script: &mut Script<R>) {
-    let calls = [Open(0x020C, 12, 9), Open(0x0208, 8, 9), Open(0x0209, 9, 4)];
+    let calls = [
+        open(0x020C, 12, 9, 1),
+        open(0x0208, 8, 9, 2),
+        open(0x0209, 9, 4, 3),
+    ];
     let [twelve, eight, nine] = calls;
     script.restore();
     enter_all(script, &[twelve]);
@@ -295,9 +318,9 @@ fn back_again<R: Subject>(script: &mut Script<R>) {
     let line = taken::<R>((1, [9, 2, 3, 9]), &calls, 3, None);
     script.step(&nine.enters(), &line);
     for (left, main, last) in [(9, 1, 9), (10, 0, 10), (8, 1, 9), (0, 1, 9)] {
-        let cause = twelve.broken_by(left);
-        let line = taken::<R>((main, [9, 2, 3, last]), &[eight, nine], 4, cause);
-        let lines = [&line[..], &ran(main, 2, 4, cause)];
+        let broken = twelve.broken_by(left);
+        let line = taken::<R>((main, [9, 2, 3, last]), &[eight, nine], 4, broken);
+        let lines = [&line[..], &ran(main, 2, 4, broken)];
         behind(script, &calls, &twelve.leaves(left), lines);
     }
 }
@@ -315,7 +338,7 @@ const NEAR: [u16; 9] = [
 fn numbers<R: Subject>(script: &mut Script<R>) {
     start(script);
     for units in [[8, 12, 14], [14; 3]] {
-        let calls = [0, 1, 2].map(|i| Open(NUMBERS[i], units[i], i as i32 + 1));
+        let calls = [0, 1, 2].map(|i| open(NUMBERS[i], units[i], i as i32 + 1, i as u32 + 1));
         script.restore();
         enter_all(script, &calls);
         calls
@@ -331,27 +354,32 @@ fn left_by_number<R: Subject>(script: &mut Script<R>, calls: &[Open], call: Open
     let stay = calls.iter().filter(|other| **other != call).copied();
     let stay: Vec<Open> = stay.collect();
     for left in [1, 2, 3] {
-        let cause = call.broken_by(left);
-        let line = taken::<R>((0, START), &stay, 4, cause);
-        let lines = [&line[..], &ran(0, 2, 4, cause)];
+        let broken = call.broken_by(left);
+        let line = taken::<R>((0, START), &stay, 4, broken);
+        let lines = [&line[..], &ran(0, 2, 4, broken)];
         behind(script, calls, &call.leaves(left), lines);
     }
     let (refused, again) = (
         ["refused 15", "refused 15 at 4"],
         ["refused 13", "refused 13 at 4"],
     );
-    behind(script, calls, &leaves(15, call.0, 1), refused);
-    behind(script, calls, &enters(15, call.0, 1), again);
-    behind(script, calls, &enters(call.1, call.0, 1), again);
+    behind(script, calls, &leaves(15, call.number, 1), refused);
+    behind(script, calls, &enters(15, call.number, 1), again);
+    behind(script, calls, &enters(call.unit, call.number, 1), again);
 }
 
 /// The exit of a number that is not open, and its entry.
 fn near_number<R: Subject>(script: &mut Script<R>, calls: &[Open], number: u16) {
     let refused = ["refused 15", "refused 15 at 4"];
-    for Open(_, unit, last) in calls {
-        behind(script, calls, &leaves(*unit, number, *last), refused);
+    for call in calls {
+        behind(
+            script,
+            calls,
+            &leaves(call.unit, number, call.last),
+            refused,
+        );
     }
-    let new = Open(number, 10, 4);
+    let new = open(number, 10, 4, 4);
     let all = [calls, &[new]].concat();
     let line = taken::<R>((0, START), &all, 4, None);
     behind(script, calls, &new.enters(), [&line, &ran(0, 4, 4, None)]);
@@ -360,10 +388,10 @@ fn near_number<R: Subject>(script: &mut Script<R>, calls: &[Open], number: u16) 
 // ---- Orders -----------------------------------------------------------------------------------
 
 const FOUR: [Open; 4] = [
-    Open(0x0107, 8, 1),
-    Open(0x0207, 12, 2),
-    Open(0x0108, 14, 3),
-    Open(0x0208, 8, 4),
+    open(0x0107, 8, 1, 1),
+    open(0x0207, 12, 2, 2),
+    open(0x0108, 14, 3, 3),
+    open(0x0208, 8, 4, 4),
 ];
 
 /// Four calls, left in every order.
@@ -384,18 +412,18 @@ fn leave_all<R: Subject>(script: &mut Script<R>, calls: [Open; 4]) {
     for (count, call) in (1..).zip(calls) {
         let stays = |open: &&Open| !calls[..count].contains(open);
         let stay: Vec<Open> = FOUR.iter().filter(stays).copied().collect();
-        let line = |cause| taken::<R>((0, START), &stay, 4 + count as u32, cause);
-        let wrong = call.2 % 4 + 1;
+        let line = |broken| taken::<R>((0, START), &stay, 4 + count as u32, broken);
+        let wrong = call.last % 4 + 1;
         script.offer(&call.leaves(wrong), &line(call.broken_by(wrong)));
-        script.step(&call.leaves(call.2), &line(None));
+        script.step(&call.leaves(call.last), &line(None));
     }
 }
 
 /// The same as runs: all four left well, and the last one with another call's value.
 fn order_runs<R: Subject>(script: &mut Script<R>, calls: [Open; 4]) {
     let last = calls[3];
-    for left in [last.2, last.2 % 4 + 1] {
-        let exits = calls.map(|call| call.leaves(call.2));
+    for left in [last.last, last.last % 4 + 1] {
+        let exits = calls.map(|call| call.leaves(call.last));
         let mut records = [FOUR.map(Open::enters), exits].concat();
         records[7] = last.leaves(left);
         let line = ran(0, 0, 8, last.broken_by(left));

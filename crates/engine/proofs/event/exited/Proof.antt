@@ -6,17 +6,17 @@ use Rattle.engine.proofs.event.exited.Statement.{statement}
 use Rattle.engine.proofs.event.exited.Tie as tie
 
 sub-after : tie.Need-sub-after
-sub-after c = omega (arith, c .before .before .before .before .before .before .before .before .before .before .before .before .before .before .before .before .before .before .before .before .before .before .pre .0)
+sub-after c = omega (arith, c .before .before .before .before .before .before .before .before .before .before .before .before .before .before .before .before .before .before .before .before .before .before .before .before .pre .0)
 
 after-requires : tie.Need-after-requires
-after-requires c κs = c .before .before .before .before .before .before .before .before .before .before .before .before .before .before .before .before .before .before .before .before .before .before .pre .2
+after-requires c κs = c .before .before .before .before .before .before .before .before .before .before .before .before .before .before .before .before .before .before .before .before .before .before .before .before .pre .2
 
 returns : tie.Need-returns
 returns c =
-    let a = c .before .before .before .before .before .before .before .before .before .before .before .before .before .before .before .before .before .before .before .before .before .before .before .args in
-    exited-there (a .s .now) (a .plan .now) (a .run) (a .row .now) (a .variables .now) (a .values .now) _ (c .before .before .before .before .before .before .before .before .before .before .before .before .before .before .before .before .before .before .before .broad .ensures .0) _ (c .before .before .before .before .before .before .before .before .before .before .before .before .before .before .before .before .before .before .front .ensures) _ (c .before .before .before .before .before .before .before .before .before .before .before .before .before .before .broad2 .ensures .0) _ (c .before .before .before .before .before .before .before .before .before .before .before .before .before .front2 .ensures) (a .leaving .unit) _ (c .before .before .before .before .before .before .before .cell-of .ensures .0) _ _ _ (c .before .before .before .before .before .broad3 .ensures .0) _ (c .before .before .before .before .find .ensures .0) (c .before .before .moved .ensures) (a .leaving .place) _ (c .before .before .before .before .before .before .before .before .before .before .before .lowest-failing .ensures) _ (c .before .before .before .before .before .before .before .before .before .wide .ensures .0) _ (c .before .before .before .before .before .before .before .before .close .ensures) _ (c .after .ensures)
+    let a = c .before .before .before .before .before .before .before .before .before .before .before .before .before .before .before .before .before .before .before .before .before .before .before .before .before .args in
+    exited-there (a .s .now) (a .plan .now) (a .run) (a .row .now) (a .variables .now) (a .values .now) _ (c .before .before .before .before .before .before .before .before .before .before .before .before .before .before .before .before .before .before .before .before .before .broad .ensures .0) _ (c .before .before .before .before .before .before .before .before .before .before .before .before .before .before .before .before .before .before .before .before .front .ensures) _ (c .before .before .before .before .before .before .before .before .before .before .before .before .before .before .before .before .broad2 .ensures .0) _ (c .before .before .before .before .before .before .before .before .before .before .before .before .before .before .before .front2 .ensures) (a .leaving .unit) _ (c .before .before .before .before .before .before .before .cell-of .ensures .0) _ _ _ (c .before .before .before .before .before .broad3 .ensures .0) _ (c .before .before .before .before .find .ensures .0) (c .before .before .moved .ensures) (a .leaving .place) _ (c .before .before .before .before .before .before .before .before .before .before .before .before .before .lowest-failing .ensures) _ (c .before .before .before .before .before .before .before .before .before .wide .ensures .0) _ (c .before .before .before .before .before .before .before .before .close .ensures) _ (c .after .ensures)
 
 pub exited-spec : {M : Type 1} → statement M
 exited-spec =
     tie.close
-    (tie.spec (λ c. search needs) (λ c κs. search needs) (λ c κs. search needs) (λ c. search needs) (λ c κs. search needs) (λ c κs. search needs) (λ c κs. search needs) (λ c κs. search needs) (λ c κs. search needs) (λ c κs. search needs) (λ c. search needs) (λ c. search needs) (λ c. search needs) (λ c. search needs) (λ c κs. search needs) (λ c κs. search needs) (λ c κs. search needs) sub-after after-requires returns)
+    (tie.spec (λ c. search needs) (λ c κs. search needs) (λ c κs. search needs) (λ c. search needs) (λ c κs. search needs) (λ c κs. search needs) (λ c κs. search needs) (λ c. search needs) (λ c. search needs) (λ c. search needs) (λ c κs. search needs) (λ c κs. search needs) (λ c κs. search needs) (λ c. search needs) (λ c. search needs) (λ c. search needs) (λ c. search needs) (λ c κs. search needs) (λ c κs. search needs) (λ c κs. search needs) sub-after after-requires returns)

@@ -10,7 +10,7 @@ text-requires-2 : tie.Need-text-requires-2
 text-requires-2 c κs = (search needs, omega (arith, c .before .before .decimal .ensures .0 .1, digits-few _ _ (search needs) (c .before .before .decimal .ensures .1 .0)))
 
 returns : tie.Need-returns
-returns c = says-named _ _ _ _ (c .before .before .before .before .before .decimal .ensures .1 .0) (c .before .before .before .before .before .decimal .ensures .1 .1) (c .before .before .before .before .before .before .before .before .before .text .ensures) (c .before .before .text2 .ensures)
+returns c = says-named _ _ _ _ (c .before .before .before .before .before .before .before .before .before .before .before .before .before .pre .1) (c .before .before .before .before .before .decimal .ensures .1 .0) (c .before .before .before .before .before .decimal .ensures .1 .1) (c .before .before .before .before .before .before .before .before .before .text .ensures) (c .before .before .text2 .ensures)
 
 pub named-spec : {M : Type 1} → statement M
 named-spec =

@@ -4,7 +4,7 @@ use Prim.Native.Nat.{_-_}
 use borrow.Author.Needs.{needs}
 use native.Mathlib.Omega.{arith}
 use lib.ListN.{length}
-use Rattle.monitor.proofs.SoundTests.Testing.{Rising, rising-start, rising-end, rising-far, rising-next, rising-fails}
+use Rattle.step.proofs.OnLists.Rising.{Rising, rising-start, rising-end, rising-far, rising-next, rising-fails}
 use Rattle.monitor.proofs.sound.rising.Statement.{statement}
 use Rattle.monitor.proofs.sound.rising.Tie as tie
 

@@ -9,13 +9,13 @@ use Rattle.network.proofs.pack.append.Statement.{statement}
 use Rattle.network.proofs.pack.append.Tie as tie
 
 abbrev Inv-loop : tie.InvT-loop
-Inv-loop words₀ living number count numbers i₀ words i = Appending number living count numbers words₀ words i
+Inv-loop words₀ living number entry count numbers i₀ words i = Appending number entry living count numbers words₀ words i
 
 abbrev μ-loop : tie.MeasureT-loop
-μ-loop words₀ living number count numbers i₀ words i = count - i
+μ-loop words₀ living number entry count numbers i₀ words i = count - i
 
 loop-holds : tie.Need-loop-holds Inv-loop μ-loop
-loop-holds c = appending-start _ _ _ _ _
+loop-holds c = appending-start _ _ _ _ _ _
 
 array-read-word-of : tie.Need-array-read-word-of Inv-loop μ-loop
 array-read-word-of c = omega (arith, c .loop-test .taken, c .before .before .before .wide .ensures .0, c .before .before .before .before .pre .1)
@@ -46,7 +46,7 @@ loop-less c = omega (arith, c .before .loop-test .taken)
 loop-again : tie.Need-loop-again Inv-loop μ-loop
 loop-again c =
     let four : length (c .before .before .before .before .before .args .arms .numbers) ≡ 4 = search needs in
-    appending-next _ _ _ _ _ _ _ (c .before .before .loop .inv) (c .before .loop-test .taken) (omega (arith, four, c .before .loop-test .taken, c .before .before .before .before .wide .ensures .0, c .before .before .before .before .before .pre .1)) _ (c .word-of .ensures)
+    appending-next _ _ _ _ _ _ _ _ (c .before .before .loop .inv) (c .before .loop-test .taken) (omega (arith, four, c .before .loop-test .taken, c .before .before .before .before .wide .ensures .0, c .before .before .before .before .before .pre .1)) _ (c .word-of .ensures)
 
 add-result : tie.Need-add-result Inv-loop μ-loop
 add-result c =
@@ -56,7 +56,7 @@ add-result c =
 returns : tie.Need-returns Inv-loop μ-loop
 returns c =
     let four : length (c .before .before .before .before .args .arms .numbers) ≡ 4 = search needs in
-    appending-end _ _ _ _ _ _ _ (c .before .loop .inv) (c .loop-test .left) (omega (arith, four, c .before .before .before .wide .ensures .0, c .before .before .before .before .pre .1)) _ (c .before .before .before .wide .ensures .0)
+    appending-end _ _ _ _ _ _ _ _ (c .before .loop .inv) (c .loop-test .left) (omega (arith, four, c .before .before .before .wide .ensures .0, c .before .before .before .before .pre .1)) _ (c .before .before .before .wide .ensures .0)
 
 pub append-spec : {M : Type 1} → statement M
 append-spec =

@@ -18,15 +18,15 @@ abbrev μ-loop : tie.MeasureT-loop
 
 returns : tie.Need-returns Inv-loop μ-loop
 returns c =
-    let a = c .before .before .before .before .before .before .args in
+    let a = c .before .before .before .before .before .before .before .args in
     let long : length (a .t1) ≡ 64 = search needs in
-    every-fails isZeroChecker (a .t1) _ _ (c .before .before .before .before .before .loop .inv) _ (omega (arith, c .before .before .before .before .loop-test .taken)) (c .if1 .left)
+    every-fails isZeroChecker (a .t1) _ _ (c .before .before .before .before .before .before .loop .inv) _ (omega (arith, c .before .before .before .before .before .loop-test .taken)) (c .if1 .left)
 
 loop-again : tie.Need-loop-again Inv-loop μ-loop
 loop-again c =
-    let a = c .before .before .before .before .before .before .args in
+    let a = c .before .before .before .before .before .before .before .args in
     let long : length (a .t1) ≡ 64 = search needs in
-    every-next isZeroChecker (a .t1) _ _ (c .before .before .before .before .before .loop .inv) _ (omega (arith, c .before .before .before .before .loop-test .taken)) (c .if1 .taken)
+    every-next isZeroChecker (a .t1) _ _ (c .before .before .before .before .before .before .loop .inv) _ (omega (arith, c .before .before .before .before .before .loop-test .taken)) (c .if1 .taken)
 
 returns-2 : tie.Need-returns-2 Inv-loop μ-loop
 returns-2 c =

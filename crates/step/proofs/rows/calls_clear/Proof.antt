@@ -15,7 +15,7 @@ use Rattle.step.proofs.rows.calls_clear.Statement.{statement}
 use Rattle.step.proofs.rows.calls_clear.Tie as tie
 
 abbrev nothing : Call
-nothing = record { number = 0; unit = 0; kept = [] }
+nothing = record { number = 0; unit = 0; entry = 0; kept = [] }
 
 abbrev none : Call → Bool
 none c = padded 8 0 (c .kept) && isZeroCall c
