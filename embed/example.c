@@ -82,10 +82,12 @@ static void print_answer(uint32_t code, uint32_t first, uint32_t second, uint32_
     }
 }
 
+/* The runs' counts of operators and operands are not printed. */
 static void run_on_sheet(struct bytes sheet, struct bytes log) {
     uint32_t first, second, third, fourth;
+    uint64_t count;
     uint32_t code = watch_run(sheet.at, sheet.length, log.at, log.length, &first, &second, &third,
-                              &fourth);
+                              &fourth, &count);
     print_answer(code, first, second, third, fourth);
 }
 
@@ -93,12 +95,14 @@ static void run_on_network(struct bytes sheet, struct bytes log) {
     uint8_t network[WATCH_MOST_NETWORK];
     size_t size;
     uint32_t code, first, second, third, fourth;
+    uint64_t count;
     uint32_t refusal = watch_translate(sheet.at, sheet.length, network, sizeof network, &size);
     if (refusal != 0) {
         print_answer(WATCH_REFUSED, refusal, 0, 0, 0);
         return;
     }
-    code = watch_run_network(network, size, log.at, log.length, &first, &second, &third, &fourth);
+    code = watch_run_network(network, size, log.at, log.length, &first, &second, &third, &fourth,
+                             &count);
     print_answer(code, first, second, third, fourth);
 }
 

@@ -9,8 +9,8 @@
  * What the caller owes, and what nothing checks:
  *  - Bytes are lent as a pointer and, right behind it, how many there are. No pointer is NULL, even
  *    where that number is 0. All the bytes are there; those of `out` may be written.
- *  - What a function writes to (out, size, first, second, third, fourth) overlaps nothing else that
- *    the call is given, and nobody else reads or writes it during the call.
+ *  - What a function writes to (out, size, first, second, third, fourth, count) overlaps nothing else
+ *    that the call is given, and nobody else reads or writes it during the call.
  *  - There are 64 KiB of stack. At most 54 KB were used, to run a network of version 3 with a condition
  *    that is `and` 511 deep; without version 3 at most 26 KB.
  *
@@ -50,6 +50,9 @@ extern "C" {
  *   sheet, sheet_length            the sheet's bytes: at most 6,782 are accepted
  *   log, log_length                the log's bytes
  *   first, second, third, fourth   are each written in every case, as below
+ *   count                          how many operators and operands the run evaluated, summed over the
+ *                                  events taken; 0 where the sheet or the log is refused, and so
+ *                                  written in every case. An event counts at most 4,416
  *
  * returns               *first              *second             *third              *fourth
  * WATCH_CLEAN           events taken        the main state      open calls          0
@@ -64,7 +67,8 @@ extern "C" {
  *                                           from 1
  */
 uint32_t watch_run(const uint8_t *sheet, size_t sheet_length, const uint8_t *log, size_t log_length,
-                   uint32_t *first, uint32_t *second, uint32_t *third, uint32_t *fourth);
+                   uint32_t *first, uint32_t *second, uint32_t *third, uint32_t *fourth,
+                   uint64_t *count);
 
 /*
  * The same on a network, as watch_translate or watch_translate_card writes it, cut to its length: a
@@ -72,13 +76,14 @@ uint32_t watch_run(const uint8_t *sheet, size_t sheet_length, const uint8_t *log
  *
  *   network, network_length   the network's bytes: at most 7,904 are accepted of version 2, at most
  *                             65,535 of version 3
- *   the others                as for watch_run
+ *   the others                as for watch_run; an event counts at most 6,464 on a network of version 2,
+ *                             and 102,464 on one of version 3
  *
  * returns as watch_run does, with the refusals of a network.
  */
 uint32_t watch_run_network(const uint8_t *network, size_t network_length, const uint8_t *log,
                            size_t log_length, uint32_t *first, uint32_t *second, uint32_t *third,
-                           uint32_t *fourth);
+                           uint32_t *fourth, uint64_t *count);
 
 /*
  * Translates a sheet into its network.

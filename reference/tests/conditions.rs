@@ -1,6 +1,7 @@
 //! The evaluator on its own, through the cases of `condition_cases`.
 
 use reference::framing::condition_frames::{read_frames, Kind};
+use reference::framing::counted_lines::split_count;
 use reference::framing::pages::PAGE;
 use reference::implementation::expr::{self, Lent};
 use reference::implementation::refusal::Refusal;
@@ -20,12 +21,13 @@ fn chosen_cases_have_the_answers_written_beside_them() {
             .expected
             .as_deref()
             .expect("a chosen case has an answer");
-        assert_eq!(
-            row.frame.answer(),
-            expected,
-            "case {number}: {:?}",
-            row.frame
-        );
+        let (answer, count) = split_count(&row.frame.answer());
+        assert_eq!(answer, expected, "case {number}: {:?}", row.frame);
+        let judges = matches!(row.frame.kind, Kind::JudgeCondition | Kind::JudgeAction);
+        assert_eq!(count.is_none(), judges, "case {number}");
+        if row.count.is_some() {
+            assert_eq!(count, row.count, "case {number}: {:?}", row.frame);
+        }
     }
 }
 
@@ -34,7 +36,7 @@ fn the_file_is_large_enough_and_small_enough() {
     let files = programs::files("condition_cases").expect("the program is in the table");
     let frames = read_frames(&files.stdin).expect("frames fill the file");
     assert!(frames.len() >= 600, "{} cases", frames.len());
-    assert!(files.stdin.len() <= 6 * PAGE, "{}", files.stdin.len());
+    assert!(files.stdin.len() <= 7 * PAGE, "{}", files.stdin.len());
     let lines = files.stdout.split(|b| *b == b'\n').count() - 1;
     assert_eq!(frames.len(), lines);
     for frame in &frames {
@@ -47,8 +49,9 @@ fn the_file_is_large_enough_and_small_enough() {
 fn every_answer_occurs_many_times() {
     let rows = condition_cases::all();
     let count = |kind: Kind, wanted: &dyn Fn(&str) -> bool| {
-        let matching =
-            |row: &&condition_cases::Row| row.frame.kind == kind && wanted(&row.frame.answer());
+        let matching = |row: &&condition_cases::Row| {
+            row.frame.kind == kind && wanted(&split_count(&row.frame.answer()).0)
+        };
         rows.iter().filter(matching).count()
     };
     for kind in [Kind::Condition, Kind::Value, Kind::Action] {
@@ -94,7 +97,7 @@ fn reading_and_writing_give_the_same_bytes() {
 
 #[test]
 fn starred_rows_of_document_01() {
-    let holds = |bytes: &[u8]| expr::evaluate_condition(bytes, &NOTHING);
+    let holds = |bytes: &[u8]| expr::evaluate_condition(bytes, &NOTHING).map(|c| c.result);
     let low_high = [
         6, 16, 0x80, 0, 0, 0, 16, 0x7F, 0xFF, 0xFF, 0xFF, 16, 0, 0, 0,
     ];
@@ -104,7 +107,8 @@ fn starred_rows_of_document_01() {
     assert_eq!(holds(&less), Ok(true));
     let plus = [20, 16, 0x7F, 0xFF, 0xFF, 0xFF, 16, 0, 0, 0, 1];
     // As document 02's slip 2 has it.
-    assert_eq!(expr::evaluate_value(&plus, &NOTHING), Ok(2147483647));
+    let value = expr::evaluate_value(&plus, &NOTHING);
+    assert_eq!(value.map(|v| v.result), Ok(2147483647));
 }
 
 #[test]

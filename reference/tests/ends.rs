@@ -170,7 +170,7 @@ fn the_more_than_rule_holds_past_the_greatest() {
             run(&network, &log),
             run(&network.separated(), &log),
         ];
-        assert_eq!(lines.map(|line| line.to_string()), [line; 3]);
+        assert_eq!(lines.map(|run| run.result.to_string()), [line; 3]);
         let decides = Turned::of(&sheet).of_log(&log);
         let label = format!("sheet run: {}", STOPS[0]);
         assert_eq!(decides.contains(&label), stops, "{decides:?}");

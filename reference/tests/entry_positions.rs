@@ -3,15 +3,15 @@
 //! make, and looked for in the files that the case programs read; so are the faults that they would see.
 
 mod committed;
+mod visiting;
 
-use committed::{add, assert_shown, committed, lines, Counts};
+use committed::{add, assert_shown, Counts};
 use reference::counting::ends::Written;
 use reference::counting::entries::{of_log, wanted, Mistake, Taken};
 use reference::counting::tally;
 use reference::framing::monitor_frames::Arms;
 use reference::framing::network_frames::Checkers;
-use reference::framing::pages::PAGE;
-use reference::framing::script_frames::{read_page, Bench, Frame, Own};
+use reference::framing::script_frames::{Frame, Own};
 use reference::implementation::engine::{Engine, Event};
 use reference::implementation::expr::{Condition, Value};
 use reference::implementation::machine::Kind;
@@ -30,6 +30,7 @@ use reference::making::generate::{self, Manner, Shape, Size};
 use reference::making::random::Random;
 use reference::making::scripts::script::{entry, exit};
 use std::collections::{BTreeMap, HashSet};
+use visiting::visit;
 
 const LAST: u32 = u32::MAX;
 
@@ -55,9 +56,10 @@ fn returning() -> Sheet {
 /// The line of a run, which must be the same on the sheet and on both of its networks.
 fn line(sheet: &Sheet, records: &[Record]) -> String {
     let network = sheet.translate();
-    let on_sheet = run_records(sheet, records);
-    assert_eq!(run_records(&network, records), on_sheet);
-    assert_eq!(run_records(&network.separated(), records), on_sheet);
+    let on_sheet = run_records(sheet, records).result;
+    let card = network.separated();
+    assert_eq!(run_records(&network, records).result, on_sheet);
+    assert_eq!(run_records(&card, records).result, on_sheet);
     on_sheet.to_string()
 }
 
@@ -546,7 +548,7 @@ impl Fault {
     ) -> Result<R::State, Refusal> {
         match self {
             Fault::Asks(clause, instead) => match sound_by(rules, state, clause, instead) {
-                true => rules.take(state, event),
+                true => rules.take(state, event).map(|next| next.result),
                 false => Err(Refusal::Unsound),
             },
             Fault::Carries(mistake) => {
@@ -599,36 +601,6 @@ fn carry(mistake: Mistake, before: &Common, event: &Event, next: &mut Common) {
 }
 
 // ---- The committed scripts --------------------------------------------------------------------
-
-/// Sees each frame of a program's pages, with the rules that are laid out, if they are accepted, and what the
-/// frames before it have led to. The lines must be those of the reference.
-fn visit<R, O>(program: &str, mut see: impl FnMut(Option<&R>, &Bench<R>, &Frame<O>, &str))
-where
-    R: Entered<Own = O, State = O::State>,
-    O: Own,
-{
-    let mut lines = lines(program).into_iter();
-    for page in committed(program, "stdin").chunks(PAGE) {
-        let (mut bench, mut rules) = (Bench::<R>::default(), None);
-        for frame in &read_page::<O>(page).0 {
-            if let Frame::Rules(bytes) = frame {
-                rules = R::read(bytes).ok();
-            }
-            let line = has_line(frame).then(|| lines.next().expect("a line"));
-            if let Some(line) = &line {
-                see(rules.as_ref(), &bench, frame, line);
-            }
-            assert_eq!(bench.carry_out(frame), line);
-        }
-    }
-}
-
-fn has_line<O>(frame: &Frame<O>) -> bool {
-    matches!(
-        frame,
-        Frame::Fresh | Frame::Offer { .. } | Frame::Run(_) | Frame::EntryValues(_)
-    )
-}
 
 /// The refusals of 10 to 15 that an event meets, each judged without regard to the others.
 fn besides<R: Entered>(rules: &R, common: &Common, event: &Record) -> Vec<u8> {
@@ -967,7 +939,7 @@ fn shows_in_run<R: Entered>(fault: Fault, rules: &R, log: &[u8]) -> bool {
     }
     let records = read_log(log, rules.machine().header.program).unwrap_or_default();
     let offer = |rules: &R, state: &R::State, event: &Event| fault.offer(rules, state, event);
-    follow(rules, &records, offer) != run_records(rules, &records)
+    follow(rules, &records, offer) != run_records(rules, &records).result
 }
 
 /// Of every engine: events and runs with another verdict or call, and events that 9 answers otherwise.

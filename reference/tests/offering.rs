@@ -48,6 +48,7 @@ fn every_sort_of_case_occurs_often() {
             (Sort::Ends, 500),
             (Sort::Preconditions, 500),
             (Sort::Entries, 500),
+            (Sort::Counts, 1_200),
         ],
     );
     let logs = count(pages, |row, _| is_run(row));

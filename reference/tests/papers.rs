@@ -48,8 +48,8 @@ fn line(sheet: &[u8], records: &[Record]) -> String {
     let log = write_log(read.machine.header.program, records);
     let mut buffer = vec![0; BUFFER];
     let length = translate(sheet, &mut buffer).expect("it can be translated");
-    let on_sheet = run_sheet(sheet, &log);
-    assert_eq!(run_network(&buffer[..length], &log), on_sheet);
+    let on_sheet = run_sheet(sheet, &log).result;
+    assert_eq!(run_network(&buffer[..length], &log).result, on_sheet);
     on_sheet.to_string()
 }
 

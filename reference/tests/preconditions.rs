@@ -159,7 +159,7 @@ fn a_precondition_is_read_at_the_entry_alone() {
             true => format!("violated 5 state - triple 0 entry {call}"),
         };
         for line in lines {
-            assert_eq!(line.to_string(), expected);
+            assert_eq!(line.result.to_string(), expected);
         }
     }
 }
@@ -237,7 +237,7 @@ fn the_sample_s_logs() {
             run(&network, &bytes),
             run(&network.separated(), &bytes),
         ];
-        assert_eq!(lines.map(|line| line.to_string()), [line; 3], "{log}");
+        assert_eq!(lines.map(|run| run.result.to_string()), [line; 3], "{log}");
         let label = format!("sheet run: {}", OF_RUNS[0]);
         assert_eq!(of_log(&sheet, &bytes).contains(&label), decides, "{log}");
     }

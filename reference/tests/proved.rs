@@ -6,15 +6,19 @@ mod places;
 use places::directory;
 use reference::counting::tally::SEED;
 use reference::framing::proved::{self, numbered, Answer};
+use reference::implementation::machine::Kind;
 use reference::implementation::network::Version;
 use reference::implementation::program::{output, MOST_INPUT};
-use reference::implementation::run::{run_network, run_sheet, Outcome};
+use reference::implementation::run::{run_network, run_sheet, write_log, Outcome, Record};
 use reference::implementation::sheet::{Sheet, LONGEST_SHEET};
 use reference::implementation::translate::{translate, translate_to, BUFFER, CARD_BUFFER};
 use reference::making::cases::rival_sheets;
 use reference::making::cases::sheet_cases::{LOG_A, SHEET_A};
 use reference::making::generate::{damaged, network_case, run_case, RunCase};
 use reference::making::random::Random;
+use reference::making::scripts::count_forms::Form;
+use reference::making::scripts::script::{entry, exit};
+use reference::making::scripts::tried_counts::greatest_network;
 use reference::making::workloads;
 use std::fs;
 use std::path::{Path, PathBuf};
@@ -24,17 +28,26 @@ const INPUTS: usize = 20_000;
 /// What stands in bytes that are not to be written.
 const FILL: u8 = 0xA5;
 
-/// Every code must occur often, or the inputs say little.
+/// Every code must occur often, and counts over 0 with each but where the whole is refused, or the inputs say
+/// little.
 #[derive(Default)]
-struct Codes([usize; 4]);
+struct Codes {
+    all: [usize; 4],
+    counting: [usize; 4],
+}
 
 impl Codes {
     fn count(&mut self, answer: Answer) {
-        self.0[answer.code as usize] += 1;
+        self.all[answer.code as usize] += 1;
+        self.counting[answer.code as usize] += usize::from(answer.count > 0);
     }
 
     fn assert_many(&self) {
-        assert!(self.0.iter().all(|count| *count >= 500), "{:?}", self.0);
+        assert!(self.all.iter().all(|count| *count >= 500), "{:?}", self.all);
+        let [clean, violated, refused, event_refused] = self.counting;
+        let counting = [clean, violated, event_refused];
+        assert!(counting.iter().all(|count| *count >= 300), "{counting:?}");
+        assert_eq!(refused, 0);
     }
 }
 
@@ -78,6 +91,22 @@ fn compare_runs(mut make: impl FnMut(usize) -> (Vec<u8>, Vec<u8>)) {
         codes.count(answer);
     }
     codes.assert_many();
+}
+
+/// A run that counts over 32 bits: calls on a network of version 3 that counts as much as can be, one after the other.
+#[test]
+fn a_count_over_32_bits() {
+    let network = greatest_network(Kind::Entry, Form::Version3);
+    let call = [entry(0, 7, &[]), exit(0, 7, &[])];
+    let one = run_network(&network, &write_log(0, &call)).count;
+    assert_eq!(one, 102_460 + 4_096);
+    let calls = (u64::from(u32::MAX) / one + 1) as usize;
+    let records: Vec<Record> = call.iter().cycle().take(2 * calls).cloned().collect();
+    let answer = proved::run_network(&network, &write_log(0, &records));
+    let events = 2 * calls as u32;
+    assert_eq!((answer.code, answer.numbers), (0, [events, 0, 0, 0]));
+    assert_eq!(answer.count, one * calls as u64);
+    assert!(answer.count > u64::from(u32::MAX));
 }
 
 fn any_network(random: &mut Random, number: usize) -> (Vec<u8>, Vec<u8>) {
@@ -267,10 +296,10 @@ fn run_example(program: &Path, arguments: &[&Path]) -> Output {
 fn two_lines(sheet: &[u8], log: &[u8]) -> String {
     let mut buffer = vec![0; BUFFER];
     let on_network = match translate(sheet, &mut buffer) {
-        Ok(length) => run_network(&buffer[..length], log),
+        Ok(length) => run_network(&buffer[..length], log).result,
         Err(refusal) => Outcome::Refused(refusal),
     };
-    format!("{}\n{on_network}\n", run_sheet(sheet, log))
+    format!("{}\n{on_network}\n", run_sheet(sheet, log).result)
 }
 
 #[test]

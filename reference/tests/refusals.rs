@@ -59,7 +59,7 @@ fn read_sheet(bytes: &[u8]) -> Result<(), u8> {
     if let Some(refusal) = refusal {
         assert!(buffer.iter().all(|b| *b == 7));
         assert_eq!(
-            reference::implementation::run::run_sheet(bytes, &[]),
+            reference::implementation::run::run_sheet(bytes, &[]).result,
             Outcome::Refused(refusal)
         );
         let event = event(0, 0, 1);

@@ -62,8 +62,8 @@ fn line(records: &[Record]) -> String {
     let lines: Vec<&str> = text.lines().collect();
     assert_eq!(lines.len(), 2);
     assert_eq!(lines[0], lines[1]);
-    assert_eq!(run_sheet(&SHEET_A, &log).to_string(), lines[0]);
-    assert_eq!(run_network(&NETWORK_A, &log).to_string(), lines[1]);
+    assert_eq!(run_sheet(&SHEET_A, &log).result.to_string(), lines[0]);
+    assert_eq!(run_network(&NETWORK_A, &log).result.to_string(), lines[1]);
     lines[0].to_string()
 }
 
@@ -185,8 +185,8 @@ fn fresh_states() {
 #[test]
 fn refused_logs() {
     let run = |log: &[u8]| {
-        let outcome = run_sheet(&SHEET_A, log);
-        assert_eq!(run_network(&NETWORK_A, log), outcome);
+        let outcome = run_sheet(&SHEET_A, log).result;
+        assert_eq!(run_network(&NETWORK_A, log).result, outcome);
         outcome
     };
     let changed = |place: usize, byte: u8| {
@@ -226,9 +226,10 @@ fn refusal_18_at_every_length() {
         let mut log = LOG[..length].to_vec();
         log[3] = length as u8;
         let whole = (length - 6) % 12 == 0;
-        let refused = run_sheet(&SHEET_A, &log) == Outcome::Refused(Refusal::LogRecords);
+        let on_sheet = run_sheet(&SHEET_A, &log).result;
+        let refused = on_sheet == Outcome::Refused(Refusal::LogRecords);
         assert_eq!(refused, !whole, "{length}");
-        assert_eq!(run_network(&NETWORK_A, &log), run_sheet(&SHEET_A, &log));
+        assert_eq!(run_network(&NETWORK_A, &log).result, on_sheet);
     }
 }
 

@@ -422,7 +422,7 @@ impl Laid {
         match frame {
             Frame::Offer { event: offered, .. } => event(offered),
             Frame::Run(log) if read_log(log, network.machine.header.program).is_ok() => {
-                deciding(network, &self.others, |n| run(n, log))
+                deciding(network, &self.others, |n| run(n, log).result)
             }
             _ => Vec::new(),
         }

@@ -13,7 +13,7 @@ use Rattle.step.specs.Lists.{keep}
 use Rattle.step.specs.Answers.{taken, declined}
 use Rattle.translation.specs.Answer.{networkBytes, cardBytes}
 use Rattle.monitor.specs.Rows as OnSheet
-use Rattle.network.specs.Answers.{runOf}
+use Rattle.network.specs.Answers.{runOf, runCountOf}
 use Rattle.agreement.specs.Shown.{Shown, defined, shownBySheet, offeredTo, shownByNetwork}
 use Rattle.agreement.specs.Card.{holdsFor}
 
@@ -92,5 +92,8 @@ pub record Rows : Type 0 where
   pub card : map (λ (r : Row). shownByNetwork (cardBytes sheetB) (offeredTo (cardBytes sheetB) (r .events))) rows ≡ map (λ (r : Row). r .shown) rows
   -- the starred logs on sheet A's network
   pub runs : map (λ (r : OnSheet.Row). runOf networkA (OnSheet.log (r .records))) OnSheet.rows ≡ map (λ (r : OnSheet.Row). r .expected) OnSheet.rows
+  -- what they count there and on the card's: as much as on sheet A
+  pub counts : map (λ (r : OnSheet.Row). runCountOf networkA (OnSheet.log (r .records))) OnSheet.rows ≡ map (λ (r : OnSheet.Row). r .counted) OnSheet.rows
+  pub cardCounts : map (λ (r : OnSheet.Row). runCountOf cardA (OnSheet.log (r .records))) OnSheet.rows ≡ map (λ (r : OnSheet.Row). r .counted) OnSheet.rows
   -- At an entry in state 0 the network of version 2 has two, the one that is added among them; the card's has one. At an exit in state 1 each has one, and in state 0 none.
   pub exclusive : (holding networkA 0 0 0 ≡ 2) × (holding cardA 0 0 0 ≡ 1) × (holding networkA 1 1 0 ≡ 1) × (holding cardA 1 1 0 ≡ 1) × (holding cardA 0 1 0 ≡ 0) × (holding cardA 0 0 1 ≡ 0)

@@ -1,21 +1,21 @@
 -- From where a whole condition, value or action ends to the operations' answers. Assumes nothing.
 use mathlib.Core.Path.{_≡_, refl, sym, ap, _∙_}
-use mathlib.Core.Bool.{Bool, true, false, not, cond, _&&_, and-true, and-false}
+use mathlib.Core.Bool.{Bool, true, false, not, cond, _&&_}
 use mathlib.Core.Option.{Option, none, some}
 use mathlib.Core.List.{List, [], _∷_}
-use Prim.Native.Nat.{ℕ, _+_, _≤_, _<_}
+use Prim.Native.Nat.{ℕ, _+_, _-_, _≤_, _<_}
 use native.Mathlib.Omega.{arith}
-use borrow.Author.Tests.{ltb-true, ltb-false, leb-true, le-leb, lt-leb, eq-eqb, ne-eqb, eqb-true, eqb-false}
-use lib.Dec.{leb, ltb, eqb}
-use lib.ListN.{length, drop, length-drop, drop-of-length-le}
-use lib.Seq.{drop-length}
+use borrow.Author.Tests.{leb-true, le-leb, lt-leb, eq-eqb, ne-eqb, eqb-true, eqb-false}
+use lib.Dec.{leb, eqb}
+use lib.ListN.{length, take, drop, length-drop, drop-of-length-le}
+use lib.Seq.{drop-length, take-all}
 use Rattle.condition.specs.declared.Lent.{Lent}
 use Rattle.condition.specs.Tree.{Condition, conditionNames, actionNames, isMonitor, isAtEntry}
 use Rattle.condition.specs.Parse.{Parsed, malformed, parsed, Reader, exactly, conditionFrom, parseCondition, parseValue, parseAction}
 use Rattle.condition.specs.Meaning.{Environment, lent, holds}
-use Rattle.condition.specs.Answer.{refused, given, sized, longest, actionSized, longestAction, conditionOutcome, valueOutcome, truthOf, holdsFrom, runOutcome, actionOutcome, whether, conditionWhich, actionWhich}
+use Rattle.condition.specs.Answer.{refused, given, sized, longest, actionSized, longestAction, conditionOutcome, valueOutcome, conditionCounted, valueCounted, truthOf, countOf, holdsFrom, countFrom, runOutcome, actionOutcome, runCounted, actionCounted, whether, conditionWhich, actionWhich}
 use Rattle.condition.specs.Word.{signed}
-use Rattle.condition.specs.Walk.{bit, Ends, Skips, Means, conditionReader, valueReader, conditionBit, valueWord, EvaluatesCondition, EvaluatesValue}
+use Rattle.condition.specs.Walk.{bit, Ends, Skips, Means, conditionReader, valueReader, conditionBit, valueWord, conditionReached, valueReached, EvaluatesCondition, EvaluatesValue, Cursor}
 use Rattle.condition.proofs.Walking.{condition-nil}
 use Rattle.condition.proofs.Naming.{unkept, unmonitored, entry-narrow, monitor-narrow, action-entry-narrow}
 
@@ -28,8 +28,8 @@ sized-length s e = go (leb 1 (length s)) (leb (length s) longest) refl e
     go false false f e = absurd (omega (arith, ap bit e))
 
 -- short enough to be walked over from the start
-pub walkable : (s : List ℕ) → sized s ≡ true → (length s ≤ 65535) × (0 ≤ length s + 1)
-walkable s e = (omega (arith, sized-length s e), omega arith)
+pub walkable : (s : List ℕ) → sized s ≡ true → Cursor s 0
+walkable s e = (omega (arith, sized-length s e), (omega arith, omega arith))
 
 -- what ends just at the end is one and nothing behind it; anything else is not exactly one
 module _ {A : Type 0} (s : List ℕ) (q : ℕ) where
@@ -53,71 +53,75 @@ bit-one : (b : Bool) (w : ℕ) → w ≡ bit b → eqb w 1 ≡ b
 bit-one true w e = eq-eqb w 1 e
 bit-one false w e = ne-eqb w 1 (λ h. omega arith)
 
--- the meaning of the one that was parsed
-means-parsed : {A : Type 0} (f : A → ℕ) (w : ℕ) (a : A) (p : Parsed A) → p ≡ parsed a [] → Means f w p → w ≡ f a
-means-parsed f w a p e m = rw e at m
+-- the meaning and the count of the one that was parsed
+means-parsed : {A : Type 0} (f g : A → ℕ) (w m : ℕ) (a : A) (p : Parsed A) → p ≡ parsed a [] → Means f g 0 w m p → (w ≡ f a) × (m ≡ g a)
+means-parsed f g w m a p e x = let y : (w ≡ f a) × (m ≡ 0 + g a) = rw e at x in (y .0, omega (arith, y .1))
 
 module _ (s : List ℕ) (E : Environment) where
-  pub condition-length : sized s ≡ false → refused 4 ≡ conditionOutcome s E
-  unfolding conditionOutcome
-  condition-length e = rw e
+  pub condition-length : sized s ≡ false → (refused 4 ≡ conditionOutcome s E) × (0 ≡ conditionCounted s E)
+  unfolding conditionOutcome conditionCounted
+  condition-length e = rw e (refl, refl)
 
-  pub value-length : sized s ≡ false → refused 4 ≡ valueOutcome s E
-  unfolding valueOutcome
-  value-length e = rw e
+  pub value-length : sized s ≡ false → (refused 4 ≡ valueOutcome s E) × (0 ≡ valueCounted s E)
+  unfolding valueOutcome valueCounted
+  value-length e = rw e (refl, refl)
 
-  module _ (z : sized s ≡ true) (q w : ℕ) where
-    pub condition-answer : EvaluatesCondition E s 0 q w → q ≡ length s → given (eqb w 1) ≡ conditionOutcome s E
-    unfolding conditionOutcome parseCondition
+  module _ (z : sized s ≡ true) (q w m : ℕ) where
+    pub condition-answer : EvaluatesCondition E s 0 0 q w m → q ≡ length s → (given (eqb w 1) ≡ conditionOutcome s E) × (m ≡ conditionCounted s E)
+    unfolding conditionOutcome conditionCounted parseCondition
     condition-answer x h =
         let y = whole (conditionReader (lent E)) s q (x .skips) h in
-        rw (z, y .1) (ap given (bit-one (holds (y .0) E) w (means-parsed (conditionBit E) w (y .0) (conditionReader (lent E) (length s) s) (y .1) (x .means (length s) (omega arith)))))
+        let a = means-parsed (conditionBit E) (conditionReached E) w m (y .0) (conditionReader (lent E) (length s) s) (y .1) (x .means (length s) (omega arith)) in
+        rw (z, y .1) (ap given (bit-one (holds (y .0) E) w (a .0)), a .1)
 
-    pub condition-malformed : EvaluatesCondition E s 0 q w → (q ≡ length s → ⊥) → refused 5 ≡ conditionOutcome s E
-    unfolding conditionOutcome parseCondition
-    condition-malformed x h = rw (z, elsewhere (conditionReader (lent E)) s q (x .skips) h)
+    pub condition-malformed : EvaluatesCondition E s 0 0 q w m → (q ≡ length s → ⊥) → (refused 5 ≡ conditionOutcome s E) × (0 ≡ conditionCounted s E)
+    unfolding conditionOutcome conditionCounted parseCondition
+    condition-malformed x h = rw (z, elsewhere (conditionReader (lent E)) s q (x .skips) h) (refl, refl)
 
-    pub value-answer : EvaluatesValue E s 0 q w → q ≡ length s → given (signed w) ≡ valueOutcome s E
-    unfolding valueOutcome parseValue
+    pub value-answer : EvaluatesValue E s 0 0 q w m → q ≡ length s → (given (signed w) ≡ valueOutcome s E) × (m ≡ valueCounted s E)
+    unfolding valueOutcome valueCounted parseValue
     value-answer x h =
         let y = whole (valueReader (lent E)) s q (x .skips) h in
-        rw (z, y .1) (ap (λ (v : ℕ). given (signed v)) (means-parsed (valueWord E) w (y .0) (valueReader (lent E) (length s) s) (y .1) (x .means (length s) (omega arith))))
+        let a = means-parsed (valueWord E) (valueReached E) w m (y .0) (valueReader (lent E) (length s) s) (y .1) (x .means (length s) (omega arith)) in
+        rw (z, y .1) (ap (λ (v : ℕ). given (signed v)) (a .0), a .1)
 
-    pub value-malformed : EvaluatesValue E s 0 q w → (q ≡ length s → ⊥) → refused 5 ≡ valueOutcome s E
-    unfolding valueOutcome parseValue
-    value-malformed x h = rw (z, elsewhere (valueReader (lent E)) s q (x .skips) h)
+    pub value-malformed : EvaluatesValue E s 0 0 q w m → (q ≡ length s → ⊥) → (refused 5 ≡ valueOutcome s E) × (0 ≡ valueCounted s E)
+    unfolding valueOutcome valueCounted parseValue
+    value-malformed x h = rw (z, elsewhere (valueReader (lent E)) s q (x .skips) h) (refl, refl)
 
--- at a place, what the bytes begin with
-truth-there : (E : Environment) (s : List ℕ) (q w : ℕ) (p : Parsed Condition) → Ends s q p → Means (conditionBit E) w p → (eqb w 1 && leb q (length s)) ≡ truthOf E p
-truth-there E s q w malformed e m = rw (lt-leb q (length s) (omega arith)) (and-false (eqb w 1))
-truth-there E s q w (parsed c rest) e m = rw (bit-one (holds c E) w m, le-leb q (length s) (e .1)) (and-true (holds c E))
+-- what some bytes begin with
+module _ (E : Environment) (t : List ℕ) (q w m : ℕ) where
+  front-there : (p : Parsed Condition) → Ends t q p → Means (conditionBit E) (conditionReached E) 0 w m p → q ≤ length t → (eqb w 1 ≡ truthOf E p) × (m ≡ countOf E p)
+  front-there malformed e x h = absurd (omega arith)
+  front-there (parsed c rest) e x h = (bit-one (holds c E) w (x .0), omega (arith, x .1))
 
-abbrev placed : List ℕ → ℕ → Bool
-placed s at = ltb at (length s) && leb (length s) 65535
+  front-none : (p : Parsed Condition) → Ends t q p → length t < q → (false ≡ truthOf E p) × (0 ≡ countOf E p)
+  front-none malformed e h = (refl, refl)
+  front-none (parsed c rest) e h = absurd (omega (arith, e .1))
 
-module _ (s : List ℕ) (at : ℕ) where
-  -- short enough, and not past the end
-  pub placed-walkable : placed s at ≡ true → (length s ≤ 65535) × (at ≤ length s + 1)
-  placed-walkable e = go (ltb at (length s)) refl (leb (length s) 65535) refl e
-    where
-      go : (a : Bool) → ltb at (length s) ≡ a → (b : Bool) → leb (length s) 65535 ≡ b → (a && b) ≡ true → (length s ≤ 65535) × (at ≤ length s + 1)
-      go true f true g e = (leb-true (length s) 65535 g, omega (arith, ltb-true at (length s) f))
-      go true f false g e = absurd (omega (arith, ap bit e))
-      go false f b g e = absurd (omega (arith, ap bit e))
+-- what is lent from a place on is all that is left
+pub rest-all : (s : List ℕ) (a : ℕ) → take (length s - a) (drop a s) ≡ drop a s
+rest-all s a = take-all (length s - a) (drop a s) (omega (arith, length-drop a s))
 
+-- at a place, what the bytes from there on begin with
 module _ (s : List ℕ) (at : ℕ) (E : Environment) where
-  pub place-none : placed s at ≡ false → false ≡ holdsFrom s at E
-  unfolding holdsFrom
-  place-none e = go (ltb at (length s)) refl (leb (length s) 65535) refl e
-    where
-      go : (a : Bool) → ltb at (length s) ≡ a → (b : Bool) → leb (length s) 65535 ≡ b → (a && b) ≡ false → false ≡ (b && truthOf E (conditionFrom (length s) (lent E) (drop at s)))
-      go a f false g e = refl
-      go true f true g e = absurd (omega (arith, ap bit e))
-      go false f true g e = rw (drop-of-length-le s (ltb-false at (length s) f), condition-nil (lent E) (length s))
+  pub place-past : length s ≤ at → (false ≡ holdsFrom s at E) × (0 ≡ countFrom s at E)
+  unfolding holdsFrom countFrom
+  place-past h = rw (drop-of-length-le s {i = at} h, condition-nil (lent E) 0) (refl, refl)
 
-  pub place-answer : placed s at ≡ true → (q w : ℕ) → EvaluatesCondition E s at q w → (eqb w 1 && leb q (length s)) ≡ holdsFrom s at E
-  unfolding holdsFrom
-  place-answer e q w x = rw (le-leb (length s) 65535 (placed-walkable s at e .0)) (truth-there E s q w (conditionFrom (length s) (lent E) (drop at s)) (x .skips .ends (length s) (omega arith)) (x .means (length s) (omega arith)))
+  module _ (t : List ℕ) (e : t ≡ drop at s) where
+    pub place-long : 65534 < length t → (false ≡ holdsFrom s at E) × (0 ≡ countFrom s at E)
+    unfolding holdsFrom countFrom
+    place-long h = rw (← e, lt-leb (length t) 65534 h) (refl, refl)
+
+    module _ (z : length t ≤ 65534) (q w m : ℕ) (x : EvaluatesCondition E t 0 0 q w m) where
+      pub place-answer : q ≤ length t → (eqb w 1 ≡ holdsFrom s at E) × (m ≡ countFrom s at E)
+      unfolding holdsFrom countFrom
+      place-answer h = rw (← e, le-leb (length t) 65534 z) (front-there E t q w m (conditionFrom (length t) (lent E) t) (x .skips .ends (length t) (omega arith)) (x .means (length t) (omega arith)) h)
+
+      pub place-malformed : length t < q → (false ≡ holdsFrom s at E) × (0 ≡ countFrom s at E)
+      unfolding holdsFrom countFrom
+      place-malformed h = rw (← e, le-leb (length t) 65534 z) (front-none E t q w m (conditionFrom (length t) (lent E) t) (x .skips .ends (length t) (omega arith)) h)
 
 -- whether the bytes are a condition at all
 module _ (L : Lent) (s : List ℕ) where
@@ -188,10 +192,10 @@ module _ (s : List ℕ) where
   unfolding actionWhich
   run-judged L h = rw (action-sized s h)
 
-  pub action-refused : (E : Environment) → longestAction < length s → refused 4 ≡ actionOutcome s E
-  unfolding actionOutcome
-  action-refused E h = rw (action-long s h)
+  pub action-refused : (E : Environment) → longestAction < length s → (refused 4 ≡ actionOutcome s E) × (0 ≡ actionCounted s E)
+  unfolding actionOutcome actionCounted
+  action-refused E h = rw (action-long s h) (refl, refl)
 
-  pub action-performed : (E : Environment) → length s ≤ longestAction → runOutcome s E ≡ actionOutcome s E
-  unfolding actionOutcome
-  action-performed E h = rw (action-sized s h)
+  pub action-performed : (E : Environment) → length s ≤ longestAction → (runOutcome s E ≡ actionOutcome s E) × (runCounted s E ≡ actionCounted s E)
+  unfolding actionOutcome actionCounted
+  action-performed E h = rw (action-sized s h) (refl, refl)

@@ -1,4 +1,5 @@
--- Answers are told by their paper's words, and parsing and bytes undo each other. Assumes nothing.
+-- Answers are told by their paper's words, parsing and bytes undo each other, and no more is counted than there are bytes. Assumes
+-- nothing.
 use mathlib.Core.Path.{_≡_, refl, sym, ap, _∙_}
 use mathlib.Core.Bool.{Bool, true, false, cond}
 use Prim.Native.Nat.{ℕ, _-_, _^_, _<_}
@@ -12,8 +13,9 @@ use Rattle.condition.specs.declared.ValueAnswer.the-variants as value
 use Rattle.condition.specs.declared.ActionAnswer.the-variants as action
 use Rattle.condition.specs.Word.{signed, unsigned}
 use Rattle.condition.specs.Answer.{conditionPaper, valuePaper, actionPaper}
-use Rattle.condition.specs.Claims.{Injective, IsWord, Told, RoundTrip}
+use Rattle.condition.specs.Claims.{Injective, IsWord, Told, RoundTrip, FewCounted}
 use Rattle.condition.proofs.Parsing.{condition-whole, value-whole, action-whole, parse-bytes, parse-value-bytes, parse-action-bytes}
+use Rattle.condition.proofs.Counting.{condition-counted-few, value-counted-few, action-counted-few}
 
 -- a word is read off what it reads as
 unsigned-signed : (w : ℕ) → w < 2 ^ 32 → unsigned (signed w) ≡ w
@@ -57,3 +59,6 @@ round-trip L =
       ofValue = λ s e h. value-whole L s h;
       ofAction = λ s a h. action-whole L s h;
     }
+
+pub few-counted : FewCounted
+few-counted s E = record { conditions = condition-counted-few s E; values = value-counted-few s E; actions = action-counted-few s E }

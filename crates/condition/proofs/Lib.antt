@@ -1,6 +1,7 @@
 -- The laws that the functions' proofs and the layers above cite.
 pub mod Answering
 pub mod Claims
+pub mod Counting
 pub mod Ends
 pub mod Evaluating
 pub mod Naming

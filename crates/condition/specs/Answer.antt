@@ -17,6 +17,7 @@ use Rattle.condition.specs.Word.{signed}
 use Rattle.condition.specs.Tree.{Condition, Assignment}
 use Rattle.condition.specs.Parse.{Parsed, malformed, parsed, conditionFrom, parseCondition, parseValue, parseAction}
 use Rattle.condition.specs.Meaning.{Environment, lent, holds, word, performed}
+use Rattle.condition.specs.Count.{conditionCount, valueCount, actionCount}
 
 -- What the paper answers: the number of a refusal, or what is given.
 pub data Evaluation (A : Type 0) : Type 0 where
@@ -53,14 +54,33 @@ conditionOutcome s E = cond (sized s) (judged (parseCondition (lent E) s) (λ c.
 unfoldable pub valueOutcome : List ℕ → Environment → Evaluation ℤ
 valueOutcome s E = cond (sized s) (judged (parseValue (lent E) s) (λ e. signed (word e E))) (refused 4)
 
+-- "A refused event or evaluation counts 0": how much of what was read is evaluated
+abbrev pub countIn : {A : Type 0} → Option A → (A → ℕ) → ℕ
+countIn none f = 0
+countIn (some a) f = f a
+
+unfoldable pub conditionCounted : List ℕ → Environment → ℕ
+conditionCounted s E = cond (sized s) (countIn (parseCondition (lent E) s) (λ c. conditionCount c E)) 0
+
+unfoldable pub valueCounted : List ℕ → Environment → ℕ
+valueCounted s E = cond (sized s) (countIn (parseValue (lent E) s) (λ e. valueCount e E)) 0
+
 -- What was found at the front of some bytes is a condition, and holds.
 abbrev pub truthOf : Environment → Parsed Condition → Bool
 truthOf E malformed = false
 truthOf E (parsed c rest) = holds c E
 
--- Whether the bytes from a place on, of as many as a sheet or network has at most, begin with a condition that holds, whatever stands behind it.
+abbrev pub countOf : Environment → Parsed Condition → ℕ
+countOf E malformed = 0
+countOf E (parsed c rest) = conditionCount c E
+
+-- Whether the bytes from a place on, of fewer than a sheet or network has at most, begin with a condition that holds, whatever stands behind it; and how much of it
+-- is evaluated.
 unfoldable pub holdsFrom : List ℕ → ℕ → Environment → Bool
-holdsFrom s at E = leb (length s) 65535 && truthOf E (conditionFrom (length s) (lent E) (drop at s))
+holdsFrom s at E = leb (length (drop at s)) 65534 && truthOf E (conditionFrom (length (drop at s)) (lent E) (drop at s))
+
+unfoldable pub countFrom : List ℕ → ℕ → Environment → ℕ
+countFrom s at E = cond (leb (length (drop at s)) 65534) (countOf E (conditionFrom (length (drop at s)) (lent E) (drop at s))) 0
 
 -- The same of an action, which may be empty: the monitor variables afterwards.
 unfoldable pub runOutcome : List ℕ → Environment → Evaluation (List ℕ)
@@ -68,6 +88,12 @@ runOutcome s E = judged (parseAction (lent E) s) (λ a. performed a E)
 
 unfoldable pub actionOutcome : List ℕ → Environment → Evaluation (List ℕ)
 actionOutcome s E = cond (actionSized s) (runOutcome s E) (refused 4)
+
+unfoldable pub runCounted : List ℕ → Environment → ℕ
+runCounted s E = countIn (parseAction (lent E) s) (λ a. actionCount a E)
+
+unfoldable pub actionCounted : List ℕ → Environment → ℕ
+actionCounted s E = cond (actionSized s) (runCounted s E) 0
 
 -- The paper's number and value for each case of the answers; a value is read as signed, an action gives none.
 abbrev pub conditionPaper : ConditionAnswer → Evaluation Bool

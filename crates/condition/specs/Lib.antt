@@ -3,6 +3,7 @@ pub mod Word
 pub mod Tree
 pub mod Parse
 pub mod Meaning
+pub mod Count
 pub mod Answer
 pub mod Rows
 pub mod Claims

@@ -6,53 +6,66 @@ ghost use Prim.Native.Nat.{_+_, _/_, _%_, _^_, _≤_, _<_};
 ghost use lib.ListN.{length, take};
 ghost use Rattle.condition.specs.Parse.{parseAction};
 ghost use Rattle.condition.specs.Meaning.{environment};
-ghost use Rattle.condition.specs.Answer.{mostVariables, runOutcome, done, performedOn, whether};
-ghost use Rattle.condition.specs.Walk.{EvaluatesValue, SkipsAssignment, Assigns, ran};
+ghost use Rattle.condition.specs.Answer.{mostVariables, runOutcome, runCounted, done, performedOn, whether};
+ghost use Rattle.condition.specs.Walk.{Cursor, ValueAt, SkipsAssignment, Assigns, ran};
 use crate::Lent;
 use crate::VARIABLES;
 use crate::evaluate;
+use crate::evaluate::C;
 use crate::front;
 use crate::skip;
 use crate::word::wide;
 
-// Carries out a whole run, in order: whether it is well formed. A malformed one changes no variable.
+// Whether a run is well formed, and how much was evaluated of its values: nothing where it is not.
+pub(crate) struct Ran {
+    pub formed: bool,
+    pub count: u32,
+}
+
+// Carries out a whole run, in order. A malformed one changes no variable.
 pub(crate) fn run<'a>(
     s: &[u8],
     program: &'a [u32],
     variables: &mut [u32; VARIABLES],
     count: usize,
     kept: &'a [u32],
-) -> bool
-    requires { ⌜ length (now s) ≤ 65535 ⌝ }
-    ensures { λ r. ⌜ (ran r ≡ done (runOutcome (now (s .entry)) (environment (now (program .entry)) (take count (now (variables .entry))) (now (kept .entry))))) × (now (variables .exit) ≡ performedOn count (now (variables .entry)) (runOutcome (now (s .entry)) (environment (now (program .entry)) (take count (now (variables .entry))) (now (kept .entry))))) ⌝ }
+) -> Ran
+    requires { ⌜ length (now s) ≤ 65534 ⌝ }
+    ensures { λ r. ⌜ (ran (r .formed) ≡ done (runOutcome (now (s .entry)) (environment (now (program .entry)) (take count (now (variables .entry))) (now (kept .entry))))) × (now (variables .exit) ≡ performedOn count (now (variables .entry)) (runOutcome (now (s .entry)) (environment (now (program .entry)) (take count (now (variables .entry))) (now (kept .entry))))) × (r .count ≡ runCounted (now (s .entry)) (environment (now (program .entry)) (take count (now (variables .entry))) (now (kept .entry)))) ⌝ }
 {
     let before = *variables;
-    let mut at = 0;
-    while at < s.len() {
-        at = assign(s, at, program, variables, count, kept);
+    let mut c = 0;
+    while c % C < s.len() {
+        c = assign(s, c, program, variables, count, kept);
     }
-    if at == s.len() {
-        true
+    if c % C == s.len() {
+        Ran {
+            formed: true,
+            count: (c / C) as u32,
+        }
     } else {
         *variables = before;
-        false
+        Ran {
+            formed: false,
+            count: 0,
+        }
     }
 }
 
-// Carries out the assignment at a place: the place behind it.
+// Carries out the assignment at a cursor: the cursor behind it. What is counted is its value.
 fn assign<'a>(
     s: &[u8],
-    at: usize,
+    c: usize,
     program: &'a [u32],
     variables: &mut [u32; VARIABLES],
     count: usize,
     kept: &'a [u32],
 ) -> usize
-    requires { ⌜ (length (now s) ≤ 65535) × (at < length (now s)) ⌝ }
-    ensures { λ r. ⌜ Assigns (environment (now (program .entry)) (take count (now (variables .entry))) (now (kept .entry))) (now (s .entry)) at r count (now (variables .entry)) (now (variables .exit)) ⌝ }
+    requires { ⌜ (length (now s) ≤ 65534) × ((c % 65536 < length (now s)) × (c / 65536 ≤ c % 65536)) ⌝ }
+    ensures { λ r. ⌜ Assigns (environment (now (program .entry)) (take count (now (variables .entry))) (now (kept .entry))) (now (s .entry)) (c % 65536) (c / 65536) (r % 65536) (r / 65536) count (now (variables .entry)) (now (variables .exit)) ⌝ }
 {
-    let target = wide(s[at]);
-    let r = value(s, at + 1, program, variables, count, kept);
+    let target = wide(s[c % C]);
+    let r = value(s, c + 1, program, variables, count, kept);
     if target < count {} else {
         return s.len() + 1;
     }
@@ -63,21 +76,21 @@ fn assign<'a>(
     r / 4294967296
 }
 
-// The value at a place, over the first `count` of four monitor variables.
+// The value at a cursor, over the first `count` of four monitor variables.
 fn value<'a>(
     s: &[u8],
-    at: usize,
+    c: usize,
     program: &'a [u32],
     variables: &'a [u32; VARIABLES],
     count: usize,
     kept: &'a [u32],
 ) -> usize
-    requires { ⌜ (length (now s) ≤ 65535) × (at ≤ length (now s)) ⌝ }
-    ensures { λ r. ⌜ (length (now (variables .entry)) ≡ mostVariables) × EvaluatesValue (environment (now (program .entry)) (take count (now (variables .entry))) (now (kept .entry))) (now (s .entry)) at (r / 2 ^ 32) (r % 2 ^ 32) ⌝ }
+    requires { ⌜ Cursor (now s) c ⌝ }
+    ensures { λ r. ⌜ (length (now (variables .entry)) ≡ mostVariables) × ValueAt (environment (now (program .entry)) (take count (now (variables .entry))) (now (kept .entry))) (now (s .entry)) c (r / 2 ^ 32) (r % 2 ^ 32) ⌝ }
 {
     let monitor = front(&variables[..], count);
     let e = [program, monitor, kept];
-    evaluate::value(&s, at, &e)
+    evaluate::value(&s, c, &e)
 }
 
 // Whether the bytes are exactly a run of assignments.

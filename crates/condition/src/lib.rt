@@ -1,18 +1,23 @@
 // Conditions, values and actions over operator-first bytes: judging them, evaluating them, carrying
-// actions out. Every operation here answers for all bytes and all lent values.
+// actions out, and counting what is evaluated. Every operation here answers for all bytes and all lent
+// values.
 
 ghost use mathlib.Core.Path.{_≡_};
 ghost use mathlib.Core.Bool.{true};
 ghost use mathlib.Core.List.{[]};
+ghost use Prim.Native.Nat.{_/_, _%_};
+ghost use lib.Dec.{eqb};
 ghost use lib.ListN.{take};
 ghost use Rattle.condition.specs.Tree.{conditionNames, actionNames, isMonitor, isAtEntry};
 ghost use Rattle.condition.specs.Meaning.{environment};
-ghost use Rattle.condition.specs.Answer.{conditionPaper, conditionOutcome, valuePaper, valueOutcome, holdsFrom, actionPaper, actionOutcome, done, performedOn, textFrom, conditionWhich, actionWhich};
+ghost use Rattle.condition.specs.Answer.{conditionPaper, conditionOutcome, valuePaper, valueOutcome, conditionCounted, valueCounted, holdsFrom, countFrom, actionPaper, actionOutcome, actionCounted, done, performedOn, textFrom, conditionWhich, actionWhich};
 
 mod action;
 mod evaluate;
 mod skip;
 mod word;
+
+use crate::evaluate::C;
 
 // The most bytes of a condition or a value, and of an action.
 pub const LONGEST: usize = 1024;
@@ -45,9 +50,26 @@ pub enum ActionAnswer {
     Refused(u8),
 }
 
+// An answer, and how many operators and operands were evaluated for it: none where it is a refusal.
+pub struct CountedCondition {
+    pub answer: ConditionAnswer,
+    pub count: u32,
+}
+
+pub struct CountedValue {
+    pub answer: ValueAnswer,
+    pub count: u32,
+}
+
+pub struct Held {
+    pub holds: bool,
+    pub count: u32,
+}
+
 pub struct Performed {
     pub answer: ActionAnswer,
     pub variables: [u32; VARIABLES],
+    pub count: u32,
 }
 
 // The first `count` values, or all where there are fewer.
@@ -68,18 +90,27 @@ pub fn evaluate_condition<'a>(
     program: &'a [u32],
     monitor: &'a [u32],
     kept: &'a [u32],
-) -> ConditionAnswer
-    ensures { λ r. ⌜ conditionPaper r ≡ conditionOutcome (now (s .entry)) (environment (now (program .entry)) (now (monitor .entry)) (now (kept .entry))) ⌝ }
+) -> CountedCondition
+    ensures { λ r. ⌜ (conditionPaper (r .answer) ≡ conditionOutcome (now (s .entry)) (environment (now (program .entry)) (now (monitor .entry)) (now (kept .entry)))) × (r .count ≡ conditionCounted (now (s .entry)) (environment (now (program .entry)) (now (monitor .entry)) (now (kept .entry)))) ⌝ }
 {
     if (1 <= s.len()) & (s.len() <= LONGEST) {} else {
-        return ConditionAnswer::Refused(4);
+        return CountedCondition {
+            answer: ConditionAnswer::Refused(4),
+            count: 0,
+        };
     }
     let e = [program, monitor, kept];
     let r = evaluate::condition(&s, 0, &e);
-    if r / 2 == s.len() {
-        ConditionAnswer::Is(r % 2 == 1)
+    if r / 2 % C == s.len() {
+        CountedCondition {
+            answer: ConditionAnswer::Is(r % 2 == 1),
+            count: (r / 2 / C) as u32,
+        }
     } else {
-        ConditionAnswer::Refused(5)
+        CountedCondition {
+            answer: ConditionAnswer::Refused(5),
+            count: 0,
+        }
     }
 }
 
@@ -91,15 +122,37 @@ pub fn holds_at<'a>(
     program: &'a [u32],
     monitor: &'a [u32],
     kept: &'a [u32],
-) -> bool
-    ensures { λ r. ⌜ r ≡ holdsFrom (now (s .entry)) at (environment (now (program .entry)) (now (monitor .entry)) (now (kept .entry))) ⌝ }
+) -> Held
+    ensures { λ r. ⌜ (r .holds ≡ holdsFrom (now (s .entry)) at (environment (now (program .entry)) (now (monitor .entry)) (now (kept .entry)))) × (r .count ≡ countFrom (now (s .entry)) at (environment (now (program .entry)) (now (monitor .entry)) (now (kept .entry)))) ⌝ }
 {
-    if (at < s.len()) & (s.len() <= 65535) {} else {
-        return false;
+    let r = found_at(s, at, program, monitor, kept);
+    Held {
+        holds: r % 2 == 1,
+        count: (r / 2 / C) as u32,
+    }
+}
+
+// The result of evaluating the condition there, or 0: one number, so that who asks takes it apart once.
+fn found_at<'a>(
+    s: &[u8],
+    at: usize,
+    program: &'a [u32],
+    monitor: &'a [u32],
+    kept: &'a [u32],
+) -> usize
+    ensures { λ r. ⌜ (eqb (r % 2) 1 ≡ holdsFrom (now (s .entry)) at (environment (now (program .entry)) (now (monitor .entry)) (now (kept .entry)))) × (r / 2 / 65536 ≡ countFrom (now (s .entry)) at (environment (now (program .entry)) (now (monitor .entry)) (now (kept .entry)))) ⌝ }
+{
+    if at < s.len() {} else {
+        return 0;
+    }
+    // A cursor's places are counted from here, so that they stay below C in the longest bytes too.
+    let rest = &s[at..];
+    if rest.len() <= 65534 {} else {
+        return 0;
     }
     let e = [program, monitor, kept];
-    let r = evaluate::condition(&s, at, &e);
-    (r % 2 == 1) & (r / 2 <= s.len())
+    let r = evaluate::condition(&rest, 0, &e);
+    if r / 2 % C <= rest.len() { r } else { 0 }
 }
 
 // Evaluates a value on its own, with the same refusals: its word.
@@ -108,18 +161,27 @@ pub fn evaluate_value<'a>(
     program: &'a [u32],
     monitor: &'a [u32],
     kept: &'a [u32],
-) -> ValueAnswer
-    ensures { λ r. ⌜ valuePaper r ≡ valueOutcome (now (s .entry)) (environment (now (program .entry)) (now (monitor .entry)) (now (kept .entry))) ⌝ }
+) -> CountedValue
+    ensures { λ r. ⌜ (valuePaper (r .answer) ≡ valueOutcome (now (s .entry)) (environment (now (program .entry)) (now (monitor .entry)) (now (kept .entry)))) × (r .count ≡ valueCounted (now (s .entry)) (environment (now (program .entry)) (now (monitor .entry)) (now (kept .entry)))) ⌝ }
 {
     if (1 <= s.len()) & (s.len() <= LONGEST) {} else {
-        return ValueAnswer::Refused(4);
+        return CountedValue {
+            answer: ValueAnswer::Refused(4),
+            count: 0,
+        };
     }
     let e = [program, monitor, kept];
     let r = evaluate::value(&s, 0, &e);
-    if r / 4294967296 == s.len() {
-        ValueAnswer::Is((r % 4294967296) as u32)
+    if r / 4294967296 % C == s.len() {
+        CountedValue {
+            answer: ValueAnswer::Is((r % 4294967296) as u32),
+            count: (r / 4294967296 / C) as u32,
+        }
     } else {
-        ValueAnswer::Refused(5)
+        CountedValue {
+            answer: ValueAnswer::Refused(5),
+            count: 0,
+        }
     }
 }
 
@@ -131,42 +193,49 @@ pub fn perform<'a>(
     count: usize,
     kept: &'a [u32],
 ) -> Performed
-    ensures { λ r. ⌜ (actionPaper (r .answer) ≡ done (actionOutcome (now (s .entry)) (environment (now (program .entry)) (take count variables) (now (kept .entry))))) × (r .variables ≡ performedOn count variables (actionOutcome (now (s .entry)) (environment (now (program .entry)) (take count variables) (now (kept .entry))))) ⌝ }
+    ensures { λ r. ⌜ (actionPaper (r .answer) ≡ done (actionOutcome (now (s .entry)) (environment (now (program .entry)) (take count variables) (now (kept .entry))))) × (r .variables ≡ performedOn count variables (actionOutcome (now (s .entry)) (environment (now (program .entry)) (take count variables) (now (kept .entry))))) × (r .count ≡ actionCounted (now (s .entry)) (environment (now (program .entry)) (take count variables) (now (kept .entry)))) ⌝ }
 {
     if s.len() <= LONGEST_ACTION {} else {
         return Performed {
             answer: ActionAnswer::Refused(4),
             variables,
+            count: 0,
         };
     }
     let mut present = variables;
-    if action::run(s, program, &mut present, count, kept) {
+    let ran = action::run(s, program, &mut present, count, kept);
+    if ran.formed {
         Performed {
             answer: ActionAnswer::Done,
             variables: present,
+            count: ran.count,
         }
     } else {
         Performed {
             answer: ActionAnswer::Refused(5),
             variables: present,
+            count: ran.count,
         }
     }
 }
 
 // Carries out, in place, the action whose length byte stands at a place, on the first `count` of four
-// monitor variables. What is refused changes none.
+// monitor variables: how much was evaluated of its values. What is refused changes none, and counts none.
 pub fn perform_at(
     s: &[u8],
     at: usize,
     program: &[u32],
     variables: &mut [u32; VARIABLES],
     count: usize,
-)
-    ensures { λ _. ⌜ now (variables .exit) ≡ performedOn count (now (variables .entry)) (actionOutcome (textFrom (now (s .entry)) at) (environment (now (program .entry)) (take count (now (variables .entry))) [])) ⌝ }
+) -> u32
+    ensures { λ r. ⌜ (now (variables .exit) ≡ performedOn count (now (variables .entry)) (actionOutcome (textFrom (now (s .entry)) at) (environment (now (program .entry)) (take count (now (variables .entry))) []))) × (r ≡ actionCounted (textFrom (now (s .entry)) at) (environment (now (program .entry)) (take count (now (variables .entry))) [])) ⌝ }
 {
     let text = text_at(s, at);
     if text.len() <= LONGEST_ACTION {
-        action::run(text, program, variables, count, &program[..0]);
+        let ran = action::run(text, program, variables, count, &program[..0]);
+        ran.count
+    } else {
+        0
     }
 }
 

@@ -5,6 +5,8 @@ ghost use Prim.Native.Nat.{_+_, _≤_, _<_};
 ghost use lib.ListN.{length};
 use condition::ActionAnswer;
 use condition::ConditionAnswer;
+use condition::CountedCondition;
+use condition::CountedValue;
 use condition::Lent;
 use condition::ValueAnswer;
 
@@ -99,8 +101,9 @@ fn answer(kind: usize, text: &[u8], program: Bank, monitor: Bank, kept: Bank) {
     io::write_all(OUT, b"\n");
 }
 
-fn print_condition(a: ConditionAnswer) {
-    match a {
+fn print_condition(c: CountedCondition) {
+    let answer = c.answer;
+    match answer {
         ConditionAnswer::Is(b) => {
             if b {
                 io::write_all(OUT, b"true");
@@ -110,13 +113,16 @@ fn print_condition(a: ConditionAnswer) {
         }
         ConditionAnswer::Refused(n) => print_refused(n),
     }
+    print_count(c.count);
 }
 
-fn print_value(a: ValueAnswer) {
-    match a {
+fn print_value(v: CountedValue) {
+    let answer = v.answer;
+    match answer {
         ValueAnswer::Is(w) => print_signed(w),
         ValueAnswer::Refused(n) => print_refused(n),
     }
+    print_count(v.count);
 }
 
 // The first variables after an action.
@@ -134,6 +140,13 @@ fn print_performed<'a>(
         ActionAnswer::Done => print_variables(after, count),
         ActionAnswer::Refused(n) => print_refused(n),
     }
+    print_count(done.count);
+}
+
+// How much was evaluated.
+fn print_count(n: u32) {
+    io::write_all(OUT, b" count ");
+    io::print_decimal(OUT, n as u64);
 }
 
 fn print_variables(variables: [u32; 4], count: usize) {

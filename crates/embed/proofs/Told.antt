@@ -10,10 +10,10 @@ use Rattle.step.specs.declared.RunAnswer.the-variants.{Violated}
 use Rattle.step.specs.declared.Verdict.{Verdict}
 use Rattle.step.specs.Verdicts.{causeState, causeTriple}
 
--- a run's answer in numbers, for the run itself
-pub told-run : {a b : Ending} {c n₁ n₂ n₃ n₄ : ℕ} → a ≡ b → (c ≡ codeOf a) × (n₁ ≡ firstOf a) × (n₂ ≡ secondOf a) × (n₃ ≡ thirdOf a) × (n₄ ≡ fourthOf a)
-    → (c ≡ codeOf b) × ((n₁ ≡ firstOf b) × ((n₂ ≡ secondOf b) × ((n₃ ≡ thirdOf b) × (n₄ ≡ fourthOf b))))
-told-run e (h, h₁, h₂, h₃, h₄) = rw (← e) (h, (h₁, (h₂, (h₃, h₄))))
+-- a run's answer in numbers, for the run itself, and its count
+pub told-run : {a b : Ending} {c n₁ n₂ n₃ n₄ m k : ℕ} → (a ≡ b) × (m ≡ k) → (c ≡ codeOf a) × (n₁ ≡ firstOf a) × (n₂ ≡ secondOf a) × (n₃ ≡ thirdOf a) × (n₄ ≡ fourthOf a)
+    → (c ≡ codeOf b) × ((n₁ ≡ firstOf b) × ((n₂ ≡ secondOf b) × ((n₃ ≡ thirdOf b) × ((n₄ ≡ fourthOf b) × (m ≡ k)))))
+told-run (e, f) (h, h₁, h₂, h₃, h₄) = rw (← e) (h, (h₁, (h₂, (h₃, (h₄, f)))))
 
 -- what translating answered, for the translation itself
 pub told-translated : (size : ℕ) {a b : Writing} {r n : ℕ} → a ≡ b → (r ≡ refusalOf a) × (n ≡ sizeOf a size) → {p q : List ℕ} → p ≡ q → (r ≡ refusalOf b) × ((p ≡ q) × (n ≡ sizeOf b size))

@@ -24,8 +24,8 @@ struct Numbers {
     fourth: u32,
 }
 
-// Runs a log from the fresh state of a sheet: answers the code of what it comes to, and its numbers
-// through the last four.
+// Runs a log from the fresh state of a sheet: answers the code of what it comes to, its numbers through
+// the four behind the log, and how much was evaluated through the last.
 #[no_mangle]
 pub extern "C" fn watch_run(
     sheet: &[u8],
@@ -34,14 +34,19 @@ pub extern "C" fn watch_run(
     second: &mut u32,
     third: &mut u32,
     fourth: &mut u32,
+    count: &mut u64,
 ) -> u32
     ensures { λ r. ⌜ r ≡ codeOf (OnSheet.runOf (now (sheet .entry)) (now (log .entry))) ⌝ }
     ensures { λ _. ⌜ now (first .exit) ≡ firstOf (OnSheet.runOf (now (sheet .entry)) (now (log .entry))) ⌝ }
     ensures { λ _. ⌜ now (second .exit) ≡ secondOf (OnSheet.runOf (now (sheet .entry)) (now (log .entry))) ⌝ }
     ensures { λ _. ⌜ now (third .exit) ≡ thirdOf (OnSheet.runOf (now (sheet .entry)) (now (log .entry))) ⌝ }
     ensures { λ _. ⌜ now (fourth .exit) ≡ fourthOf (OnSheet.runOf (now (sheet .entry)) (now (log .entry))) ⌝ }
+    ensures { λ _. ⌜ now (count .exit) ≡ OnSheet.runCountOf (now (sheet .entry)) (now (log .entry)) ⌝ }
 {
-    let n = numbered(monitor::run(sheet, log));
+    let ran = monitor::run(sheet, log);
+    let answer = ran.answer;
+    let n = numbered(answer);
+    *count = ran.count;
     *first = n.first;
     *second = n.second;
     *third = n.third;
@@ -58,14 +63,19 @@ pub extern "C" fn watch_run_network(
     second: &mut u32,
     third: &mut u32,
     fourth: &mut u32,
+    count: &mut u64,
 ) -> u32
     ensures { λ r. ⌜ r ≡ codeOf (OnNetwork.runOf (now (network .entry)) (now (log .entry))) ⌝ }
     ensures { λ _. ⌜ now (first .exit) ≡ firstOf (OnNetwork.runOf (now (network .entry)) (now (log .entry))) ⌝ }
     ensures { λ _. ⌜ now (second .exit) ≡ secondOf (OnNetwork.runOf (now (network .entry)) (now (log .entry))) ⌝ }
     ensures { λ _. ⌜ now (third .exit) ≡ thirdOf (OnNetwork.runOf (now (network .entry)) (now (log .entry))) ⌝ }
     ensures { λ _. ⌜ now (fourth .exit) ≡ fourthOf (OnNetwork.runOf (now (network .entry)) (now (log .entry))) ⌝ }
+    ensures { λ _. ⌜ now (count .exit) ≡ OnNetwork.runCountOf (now (network .entry)) (now (log .entry)) ⌝ }
 {
-    let n = numbered(network::run(network, log));
+    let ran = network::run(network, log);
+    let answer = ran.answer;
+    let n = numbered(answer);
+    *count = ran.count;
     *first = n.first;
     *second = n.second;
     *third = n.third;

@@ -24,7 +24,7 @@ use Rattle.step.proofs.OnLists.Rooms as Rooms
 use Rattle.step.proofs.OnLists.Rooms.{map-same}
 use Rattle.engine.specs.declared.pack.Arms.{Arms}
 use Rattle.engine.specs.Packed.{wordsOf, putAt, callIn, armsIn, callAt, armsAt}
-use Rattle.engine.specs.Machine.{Machine, Armed, State, ofNumber, entered, exited, refusal, offer}
+use Rattle.engine.specs.Machine.{Machine, Armed, State, arming, ofNumber, entered, exited, refusal, offer}
 use Rattle.engine.specs.Walk.{entries, Words}
 use Rattle.engine.specs.Showing.{armedOf, shownBy, Carries}
 use Rattle.engine.proofs.InWords.Entries.{length-entries, take-sets, drop-sets, drop-take, entries-same, entries-more}
@@ -197,10 +197,10 @@ module _ (M : Machine) (last : ℕ) (s p : List ℕ) (c : Carries M last s p) (�
   offer-narrow h = go (refusal M σ e) (isEntry e)
     where
       new : Armed
-      new = record { call = record { number = e .number; unit = e .unit; entry = σ .position + 1; kept = e .values }; armed = M .arming (σ .configuration) e }
+      new = record { call = record { number = e .number; unit = e .unit; entry = σ .position + 1; kept = e .values }; armed = arming M (σ .configuration) e }
 
       new-small : narrow new ≡ true
-      new-small = and-both (lt-ltb (e .number) 65536 number) (and-both (lt-ltb (e .unit) 256 unit) (every-weaker (λ i. ltb i last) (λ i. ltb i 256) (λ i k. lt-ltb i 256 (omega (arith, ltb-true i last k, c .fewLast))) (M .arming (σ .configuration) e) (c .armsThere (σ .configuration) e)))
+      new-small = and-both (lt-ltb (e .number) 65536 number) (and-both (lt-ltb (e .unit) 256 unit) (every-weaker (λ i. ltb i last) (λ i. ltb i 256) (λ i k. lt-ltb i 256 (omega (arith, ltb-true i last k, c .fewLast))) (arming M (σ .configuration) e) (c .armsThere (σ .configuration) e)))
 
       go : (n : ℕ) (b : Bool) → every narrow (offered n σ (cond b (entered M σ e) (exited M σ e)) .state .calls) ≡ true
       go zero true = every-append narrow (σ .calls) (new ∷ []) ∙ and-both h (and-both new-small refl)

@@ -10,12 +10,12 @@ use Rattle.sheet.specs.Reading.{reading, sheetLayout, networkLayout}
 use Rattle.sheet.specs.Log.{Event}
 use Rattle.step.specs.declared.Outcome.the-variants.{Open}
 use Rattle.step.specs.Verdicts.{verdictIn}
-use Rattle.step.specs.Runs.{Offered, Ran, runFrom}
-use Rattle.step.specs.Answers.{Ending, clean, cleanIn, ranOn}
+use Rattle.step.specs.Runs.{Offered, Ran, runFrom, runCountFrom}
+use Rattle.step.specs.Answers.{Ending, clean, cleanIn, ranOn, ranCount}
 use Rattle.engine.specs.declared.Given.{Given}
-use Rattle.engine.specs.Machine.{State, run}
+use Rattle.engine.specs.Machine.{State, run, runCount}
 use Rattle.engine.specs.Machines.{ofSheet, ofNetwork}
-use Rattle.engine.specs.Walk.{Words, words, offerIn, givenOf, eightOf}
+use Rattle.engine.specs.Walk.{Words, words, offerIn, eventCountIn, givenOf, eightOf}
 
 abbrev pub offerBy : List ℕ → List ℕ → Words → Event → Offered Words
 offerBy s p σ e = offerIn s p σ (givenOf e) (eightOf e)
@@ -26,6 +26,12 @@ startIn s = words (record { main = byte s 7; opened = 0; position = 0; outcome =
 
 unfoldable pub followIn : List ℕ → List ℕ → List Event → Ran Words
 followIn s p es = runFrom (offerBy s p) (λ σ. verdictIn (σ .run .outcome)) 1 (startIn s) es
+
+abbrev pub eventCountBy : List ℕ → List ℕ → Words → Event → ℕ
+eventCountBy s p σ e = eventCountIn s p σ (givenOf e) (eightOf e)
+
+unfoldable pub followCount : List ℕ → List ℕ → List Event → ℕ
+followCount s p es = runCountFrom (offerBy s p) (λ σ. verdictIn (σ .run .outcome)) (eventCountBy s p) (startIn s) es
 
 abbrev pub endsBy : Words → Ending
 endsBy σ = clean (σ .run .position) (σ .run .main) (σ .run .opened)
@@ -40,6 +46,12 @@ sheetRun s log = ranOn (reading sheetLayout s) (byte s 5) log endsIn (run (ofShe
 
 unfoldable pub networkRun : List ℕ → List ℕ → Ending
 networkRun s log = ranOn (reading networkLayout s) (byte s 5) log endsIn (run (ofNetwork (networkOf s)))
+
+unfoldable pub sheetCount : List ℕ → List ℕ → ℕ
+sheetCount s log = ranCount (reading sheetLayout s) (byte s 5) log (runCount (ofSheet (sheetOf s)))
+
+unfoldable pub networkCount : List ℕ → List ℕ → ℕ
+networkCount s log = ranCount (reading networkLayout s) (byte s 5) log (runCount (ofNetwork (networkOf s)))
 
 -- the record at a place of a log, for so many values
 abbrev pub givenAt : List ℕ → ℕ → ℕ → Given

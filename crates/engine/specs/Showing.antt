@@ -10,13 +10,13 @@ use Rattle.sheet.specs.Parts.{Common}
 use Rattle.sheet.specs.Table.{every}
 use Rattle.sheet.specs.Log.{Event}
 use Rattle.step.specs.Lists.{distinct}
-use Rattle.step.specs.Meets.{meets}
-use Rattle.step.specs.Moves.{Configuration, seen, moved}
+use Rattle.step.specs.Meets.{meets, meetsCount}
+use Rattle.step.specs.Moves.{Configuration, seen, moved, movedCount}
 use Rattle.step.specs.Calls.{Call, mostCalls, mostValues, mostArmed}
 use Rattle.step.specs.Verdicts.{verdictIn}
-use Rattle.engine.specs.Machine.{Machine, Armed, State}
+use Rattle.engine.specs.Machine.{Machine, Armed, State, arming, askedCount}
 use Rattle.engine.specs.Plan.{unitsIn, programsIn, monitorsIn, badIn, cellOf, firstOf, candidateOf, postOf}
-use Rattle.engine.specs.Walk.{holdsBy, foundIn, armedIn, entries, mainAfter, variablesAfter, Words, eightOf}
+use Rattle.engine.specs.Walk.{holdsBy, countBy, foundIn, foundCount, armedIn, armedCount, entries, mainAfter, variablesAfter, actionCountAfter, Words, eightOf}
 
 -- a call by its words
 abbrev pub callOf : ℕ → List ℕ → Call
@@ -59,6 +59,10 @@ pub record Fits (C : Common) (k : Configuration) (e : Event) : Type 0 where
 abbrev pub foundBy : List ℕ → List ℕ → Configuration → Event → ℕ
 foundBy s p k e = foundIn s p (firstOf p (2 * cellOf (k .main) (e .unit) + e .kind)) (seen e k)
 
+-- and how much is evaluated until it is found
+abbrev pub foundCountBy : List ℕ → List ℕ → Configuration → Event → ℕ
+foundCountBy s p k e = foundCount s p (firstOf p (2 * cellOf (k .main) (e .unit) + e .kind)) (seen e k)
+
 -- Bytes with a plan that carry a machine.
 pub record Carries (M : Machine) (last : ℕ) (s p : List ℕ) : Type 0 where
   pub units : unitsIn p ≡ M .common .units
@@ -71,8 +75,13 @@ pub record Carries (M : Machine) (last : ℕ) (s p : List ℕ) : Type 0 where
   pub alters : (k : Configuration) (e : Event) → Fits (M .common) k e → (variables : List ℕ) → take (M .common .monitors) variables ≡ k .variables
       → variablesAfter s p (foundBy s p k e) (eightOf e) variables ≡ moved (M .common) (M .transitions) k e .variables ++ drop (M .common .monitors) variables
   pub stays : (k : Configuration) (e : Event) → k .main < M .common .states → moved (M .common) (M .transitions) k e .main < M .common .states
-  pub arms : (k : Configuration) (e : Event) → Fits (M .common) k e → e .kind ≡ 0 → armedIn s p (candidateOf p (cellOf (k .main) (e .unit)) (foundBy s p k e)) (seen e k) ≡ M .arming k e
-  pub fewArms : (k : Configuration) (e : Event) → length (M .arming k e) ≤ mostArmed
-  pub armsThere : (k : Configuration) (e : Event) → every (λ i. ltb i last) (M .arming k e) ≡ true
+  pub arms : (k : Configuration) (e : Event) → Fits (M .common) k e → e .kind ≡ 0 → armedIn s p (candidateOf p (cellOf (k .main) (e .unit)) (foundBy s p k e)) (seen e k) ≡ arming M k e
+  pub fewArms : (k : Configuration) (e : Event) → length (arming M k e) ≤ mostArmed
+  pub armsThere : (k : Configuration) (e : Event) → every (λ i. ltb i last) (arming M k e) ≡ true
   pub judges : (i : ℕ) → i < last → (values variables kept : List ℕ) → length values ≡ M .common .programs → length variables ≡ M .common .monitors → length kept ≡ M .common .programs
       → holdsBy s (postOf p i) (environment values variables kept) ≡ meets (M .common) (M .postcondition i) (environment values variables kept)
+  pub moveCounts : (k : Configuration) (e : Event) → Fits (M .common) k e → (variables : List ℕ) → take (M .common .monitors) variables ≡ k .variables
+      → foundCountBy s p k e + actionCountAfter s p (foundBy s p k e) (eightOf e) variables ≡ movedCount (M .common) (M .transitions) k e
+  pub askCounts : (k : Configuration) (e : Event) → Fits (M .common) k e → e .kind ≡ 0 → armedCount s p (candidateOf p (cellOf (k .main) (e .unit)) (foundBy s p k e)) (seen e k) ≡ askedCount M k e
+  pub judgeCounts : (i : ℕ) → i < last → (values variables kept : List ℕ) → length values ≡ M .common .programs → length variables ≡ M .common .monitors → length kept ≡ M .common .programs
+      → countBy s (postOf p i) (environment values variables kept) ≡ meetsCount (M .common) (M .postcondition i) (environment values variables kept)

@@ -8,13 +8,14 @@ use lib.Dec.{eqb, ltb, leb}
 use lib.ListN.{length, getD, set, take, drop}
 use lib.Seq.{sets, slice}
 use Rattle.condition.specs.Meaning.{Environment, environment}
-use Rattle.condition.specs.Answer.{performedOn, actionOutcome, holdsFrom, textFrom}
+use Rattle.condition.specs.Answer.{performedOn, actionOutcome, actionCounted, holdsFrom, countFrom, textFrom}
 use Rattle.sheet.specs.Table.{fit}
 use Rattle.sheet.specs.Log.{Event}
-use Rattle.step.specs.Lists.{first, keep, placeOf}
+use Rattle.step.specs.Lists.{first, keep, upTo, total, placeOf}
 use Rattle.step.specs.Calls.{mostCalls, mostValues, mostArmed, lastPosition}
 use Rattle.step.specs.Verdicts.{isJudged, verdict, outcomeOf, verdictIn}
 use Rattle.step.specs.Runs.{Offered, offered}
+use Rattle.step.specs.Answers.{unlessTaken}
 use Rattle.step.specs.Walk.{leastOf, numberIn}
 use Rattle.engine.specs.declared.Running.{Running}
 use Rattle.engine.specs.declared.Given.{Given}
@@ -23,6 +24,10 @@ use Rattle.engine.specs.Plan.{unitsIn, programsIn, monitorsIn, badIn, ce
 -- a condition by the place of its text, 0 for `true`
 abbrev pub holdsBy : List ℕ → ℕ → Environment → Bool
 holdsBy s at E = cond (eqb at 0) true (holdsFrom s at E)
+
+-- and how much of it is evaluated
+abbrev pub countBy : List ℕ → ℕ → Environment → ℕ
+countBy s at E = cond (eqb at 0) 1 (countFrom s at E)
 
 -- The numbers in a chain, from one on: each with how many stand between it and the next, as long as they are below a limit.
 unfoldable pub chain : (ℕ → ℕ) → ℕ → ℕ → ℕ → List ℕ
@@ -37,9 +42,16 @@ otherwise d (some n) = n
 unfoldable pub foundIn : List ℕ → List ℕ → ℕ → Environment → ℕ
 foundIn s p t E = otherwise 96 (first (λ i. holdsBy s (guardOf p i) E) (chain (gapOf p) 96 96 t))
 
+-- how much is evaluated until it is found
+unfoldable pub foundCount : List ℕ → List ℕ → ℕ → Environment → ℕ
+foundCount s p t E = total (λ i. countBy s (guardOf p i) E) (upTo (λ i. holdsBy s (guardOf p i) E) (chain (gapOf p) 96 96 t))
+
 -- the numbers of the candidates of a chain whose condition holds
 unfoldable pub armedIn : List ℕ → List ℕ → ℕ → Environment → List ℕ
 armedIn s p i E = map (numberOf p) (keep (λ j. holdsBy s (askedOf p j) E) (chain (behindOf p) 384 384 i))
+
+unfoldable pub armedCount : List ℕ → List ℕ → ℕ → Environment → ℕ
+armedCount s p i E = total (λ j. countBy s (askedOf p j) E) (chain (behindOf p) 384 384 i)
 
 -- The words of a call are sixteen: its number, its unit, how many are armed, four of them, the position of its entry, the eight values kept.
 unfoldable pub entries : ℕ → List ℕ → List (List ℕ)
@@ -64,6 +76,9 @@ keptAt p row at = take (programsIn p) (take mostValues (drop (at + 8) row))
 unfoldable pub lowIn : List ℕ → List ℕ → List ℕ → ℕ → List ℕ → List ℕ → ℕ
 lowIn s p row at values variables = leastOf 256 (keep (λ n. not (holdsBy s (postOf p n) (environment values variables (keptAt p row at)))) (armedAt row at))
 
+unfoldable pub lowCount : List ℕ → List ℕ → List ℕ → ℕ → List ℕ → List ℕ → ℕ
+lowCount s p row at values variables = total (λ n. countBy s (postOf p n) (environment values variables (keptAt p row at))) (armedAt row at)
+
 -- the main state and the variables after a transition
 abbrev pub mainAfter : List ℕ → ℕ → ℕ → ℕ
 mainAfter p t main = cond (ltb t 96) (targetOf p t % 256) main
@@ -73,6 +88,13 @@ performedAt s at program count variables = cond (eqb at 0) variables (performedO
 
 abbrev pub variablesAfter : List ℕ → List ℕ → ℕ → List ℕ → List ℕ → List ℕ
 variablesAfter s p t values variables = cond (ltb t 96) (performedAt s (actionOf p t) (take (programsIn p) values) (monitorsIn p) variables) variables
+
+-- how much is evaluated of the values that it assigns
+abbrev pub actionCountAt : List ℕ → ℕ → List ℕ → ℕ → List ℕ → ℕ
+actionCountAt s at program count variables = cond (eqb at 0) 0 (actionCounted (textFrom s at) (environment program (take count variables) []))
+
+abbrev pub actionCountAfter : List ℕ → List ℕ → ℕ → List ℕ → List ℕ → ℕ
+actionCountAfter s p t values variables = cond (ltb t 96) (actionCountAt s (actionOf p t) (take (programsIn p) values) (monitorsIn p) variables) 0
 
 -- A state in words: what stands beside its calls and variables, the row of its calls, its variables.
 pub record Words : Type 0 where
@@ -131,6 +153,26 @@ unfoldable pub offerIn : List ℕ → List ℕ → Words → Given → List ℕ 
 offerIn s p σ g values =
     let at = placeIn (g .number) (σ .run .opened) (σ .row) in
     offered (cond (leb (σ .run .opened) mostCalls) (refusalIn p (σ .run) (σ .row) g at) 9) σ (takenIn s p σ g at values)
+
+-- how much is evaluated at an entry, at an exit, and at an event
+unfoldable pub enteredCount : List ℕ → List ℕ → Words → Given → List ℕ → ℕ
+enteredCount s p σ g values =
+    let E = seenIn p values (σ .variables) in
+    let cell = cellOf (σ .run .main) (g .unit) in
+    let t = foundIn s p (firstOf p (2 * cell)) E in
+    foundCount s p (firstOf p (2 * cell)) E + armedCount s p (candidateOf p cell t) E + actionCountAfter s p t values (σ .variables)
+
+unfoldable pub exitedCount : List ℕ → List ℕ → Words → ℕ → ℕ → List ℕ → ℕ
+exitedCount s p σ unit at values =
+    let E = seenIn p values (σ .variables) in
+    let first = firstOf p (2 * cellOf (σ .run .main) unit + 1) in
+    lowCount s p (σ .row) at (E .programs) (E .monitors) + foundCount s p first E + actionCountAfter s p (foundIn s p first E) values (σ .variables)
+
+abbrev pub takenCountIn : List ℕ → List ℕ → Words → Given → ℕ → List ℕ → ℕ
+takenCountIn s p σ g at values = cond (eqb (g .kind) 0) (enteredCount s p σ g values) (exitedCount s p σ (g .unit) at values)
+
+unfoldable pub eventCountIn : List ℕ → List ℕ → Words → Given → List ℕ → ℕ
+eventCountIn s p σ g values = unlessTaken (offerIn s p σ g values .answer) 0 (takenCountIn s p σ g (placeIn (g .number) (σ .run .opened) (σ .row)) values)
 
 -- an event as it is given: with how many values, and eight words of them
 abbrev pub givenOf : Event → Given

@@ -8,7 +8,7 @@ ghost use lib.Seq.{sets};
 ghost use Rattle.condition.specs.Meaning.{environment};
 ghost use Rattle.step.specs.Calls.{mostCalls, mostArmed};
 ghost use Rattle.engine.specs.Plan.{cellOf, candidateOf, postOf};
-ghost use Rattle.engine.specs.Walk.{holdsBy, foundIn, armedIn, lowIn, mainAfter, variablesAfter, runAfter, words, enteredIn, exitedIn};
+ghost use Rattle.engine.specs.Walk.{holdsBy, countBy, foundIn, foundCount, armedIn, armedCount, lowIn, lowCount, mainAfter, variablesAfter, actionCountAfter, runAfter, words, enteredIn, exitedIn, enteredCount, exitedCount};
 use crate::Given;
 use crate::PLAN;
 use crate::Running;
@@ -17,6 +17,7 @@ use crate::long;
 use crate::place;
 use crate::row;
 use crate::wide;
+use condition::Held;
 use condition::VARIABLES;
 use step::ARMED;
 use step::VALUES;
@@ -30,6 +31,30 @@ pub(crate) struct Leaving {
     pub place: usize,
 }
 
+// What an event leaves beside the calls and variables, and how much was evaluated.
+pub(crate) struct Taken {
+    pub run: Running,
+    pub count: u32,
+}
+
+// The transition that is found, or 96, and how much was evaluated until it was.
+struct Found {
+    transition: usize,
+    count: u32,
+}
+
+// The main state behind a transition, and how much of its action was evaluated.
+struct Led {
+    main: u8,
+    count: u32,
+}
+
+// The lowest number that fails, or 256, and how much was evaluated to judge all of them.
+struct Lowest {
+    number: u16,
+    count: u32,
+}
+
 // An entry: what it arms, and the values kept.
 pub(crate) fn entered(
     s: &[u8],
@@ -39,20 +64,24 @@ pub(crate) fn entered(
     variables: &mut [u32; VARIABLES],
     given: Given,
     values: &[u32; VALUES],
-) -> Running
+) -> Taken
     requires { ⌜ (run .opened < mostCalls) × (run .position < 4294967295) ⌝ }
-    ensures { λ r. ⌜ words r (now (row .exit)) (now (variables .exit)) ≡ enteredIn (now (s .entry)) (now (plan .entry)) (words run (now (row .entry)) (now (variables .entry))) given (now (values .entry)) ⌝ }
+    ensures { λ r. ⌜ words (r .run) (now (row .exit)) (now (variables .exit)) ≡ enteredIn (now (s .entry)) (now (plan .entry)) (words run (now (row .entry)) (now (variables .entry))) given (now (values .entry)) ⌝ }
+    ensures { λ r. ⌜ r .count ≡ enteredCount (now (s .entry)) (now (plan .entry)) (words run (now (row .entry)) (now (variables .entry))) given (now (values .entry)) ⌝ }
 {
     let program = condition::front(&values[..], broad(plan[1]));
     let monitor = condition::front(&variables[..], broad(plan[2]));
     let cell = cell_of(run.main, given.unit);
-    let t = find(s, plan, broad(plan[8 + 2 * cell]), program, monitor);
+    let found = find(s, plan, broad(plan[8 + 2 * cell]), program, monitor);
     let at = 16 * wide(run.opened);
-    let first = candidate(plan, cell, t);
+    let first = candidate(plan, cell, found.transition);
     row::put(row, at, given, run.position + 1, values);
-    arm(s, plan, first, program, monitor, row, at);
-    let main = moved(s, plan, t, run.main, variables, values);
-    after(plan, run.position, main, run.opened + 1, 256, 0)
+    let asked = arm(s, plan, first, program, monitor, row, at);
+    let to = moved(s, plan, found.transition, run.main, variables, values);
+    Taken {
+        run: after(plan, run.position, to.main, run.opened + 1, 256, 0),
+        count: found.count + asked + to.count,
+    }
 }
 
 // An exit: what is armed for its call is judged, and its place is free.
@@ -64,9 +93,10 @@ pub(crate) fn exited(
     variables: &mut [u32; VARIABLES],
     leaving: Leaving,
     values: &[u32; VALUES],
-) -> Running
+) -> Taken
     requires { ⌜ (leaving .place + 16 ≤ 16 * run .opened) × (run .opened ≤ mostCalls) × (run .position < 4294967295) ⌝ }
-    ensures { λ r. ⌜ words r (now (row .exit)) (now (variables .exit)) ≡ exitedIn (now (s .entry)) (now (plan .entry)) (words run (now (row .entry)) (now (variables .entry))) (leaving .unit) (leaving .place) (now (values .entry)) ⌝ }
+    ensures { λ r. ⌜ words (r .run) (now (row .exit)) (now (variables .exit)) ≡ exitedIn (now (s .entry)) (now (plan .entry)) (words run (now (row .entry)) (now (variables .entry))) (leaving .unit) (leaving .place) (now (values .entry)) ⌝ }
+    ensures { λ r. ⌜ r .count ≡ exitedCount (now (s .entry)) (now (plan .entry)) (words run (now (row .entry)) (now (variables .entry))) (leaving .unit) (leaving .place) (now (values .entry)) ⌝ }
 {
     let program = condition::front(&values[..], broad(plan[1]));
     let monitor = condition::front(&variables[..], broad(plan[2]));
@@ -74,9 +104,19 @@ pub(crate) fn exited(
     let entry = row[leaving.place + 7];
     row::close(row, leaving.place, wide(run.opened));
     let cell = cell_of(run.main, leaving.unit);
-    let t = find(s, plan, broad(plan[9 + 2 * cell]), program, monitor);
-    let main = moved(s, plan, t, run.main, variables, values);
-    after(plan, run.position, main, run.opened - 1, low, entry)
+    let found = find(s, plan, broad(plan[9 + 2 * cell]), program, monitor);
+    let to = moved(s, plan, found.transition, run.main, variables, values);
+    Taken {
+        run: after(
+            plan,
+            run.position,
+            to.main,
+            run.opened - 1,
+            low.number,
+            entry,
+        ),
+        count: low.count + found.count + to.count,
+    }
 }
 
 // What stands beside the calls and variables after an event, for the lowest number that fails and the
@@ -120,21 +160,31 @@ fn find<'a>(
     first: usize,
     program: &'a [u32],
     monitor: &'a [u32],
-) -> usize
+) -> Found
     requires { ⌜ first < 65536 ⌝ }
-    ensures { λ r. ⌜ (r ≡ foundIn (now (s .entry)) (now (plan .entry)) first (environment (now (program .entry)) (now (monitor .entry)) [])) × (r ≤ 96) ⌝ }
+    ensures { λ r. ⌜ (r .transition ≡ foundIn (now (s .entry)) (now (plan .entry)) first (environment (now (program .entry)) (now (monitor .entry)) [])) × (r .transition ≤ 96) × (r .count ≡ foundCount (now (s .entry)) (now (plan .entry)) first (environment (now (program .entry)) (now (monitor .entry)) [])) ⌝ }
 {
     let mut t = first;
+    let mut count = 0;
     while t < 96 {
-        if holds(s, broad(plan[552 + 4 * t]), program, monitor, &program[..0]) {
-            return t;
+        let held = holds(s, broad(plan[552 + 4 * t]), program, monitor, &program[..0]);
+        count += held.count;
+        if held.holds {
+            return Found {
+                transition: t,
+                count,
+            };
         }
         t = t + 1 + broad(plan[555 + 4 * t]);
     }
-    96
+    Found {
+        transition: 96,
+        count,
+    }
 }
 
-// The main state after a transition, whose action is carried out on the variables.
+// The main state after a transition, whose action is carried out on the variables, and how much of it
+// was evaluated.
 fn moved(
     s: &[u8],
     plan: &[u16; PLAN],
@@ -142,24 +192,28 @@ fn moved(
     main: u8,
     variables: &mut [u32; VARIABLES],
     values: &[u32; VALUES],
-) -> u8
+) -> Led
     requires { ⌜ t ≤ 96 ⌝ }
-    ensures { λ r. ⌜ (r ≡ mainAfter (now (plan .entry)) t main) × (now (variables .exit) ≡ variablesAfter (now (s .entry)) (now (plan .entry)) t (now (values .entry)) (now (variables .entry))) ⌝ }
+    ensures { λ r. ⌜ (r .main ≡ mainAfter (now (plan .entry)) t main) × (now (variables .exit) ≡ variablesAfter (now (s .entry)) (now (plan .entry)) t (now (values .entry)) (now (variables .entry))) × (r .count ≡ actionCountAfter (now (s .entry)) (now (plan .entry)) t (now (values .entry)) (now (variables .entry))) ⌝ }
 {
     if t < 96 {
         let at = broad(plan[553 + 4 * t]);
+        let mut count = 0;
         if at == 0 {} else {
             let program = condition::front(&values[..], broad(plan[1]));
-            condition::perform_at(s, at, program, variables, broad(plan[2]));
+            count = condition::perform_at(s, at, program, variables, broad(plan[2]));
         }
-        (plan[554 + 4 * t] % 256) as u8
+        Led {
+            main: (plan[554 + 4 * t] % 256) as u8,
+            count,
+        }
     } else {
-        main
+        Led { main, count: 0 }
     }
 }
 
 // Stores the numbers of the candidates, from one on, whose condition holds: the first four, and how
-// many.
+// many. Answers how much was evaluated.
 fn arm<'a>(
     s: &[u8],
     plan: &[u16; PLAN],
@@ -168,21 +222,25 @@ fn arm<'a>(
     monitor: &'a [u32],
     row: &mut [u32; 256],
     at: usize,
-)
+) -> u32
     requires { ⌜ (first < 65536) × (at + 16 ≤ 256) ⌝ }
+    ensures { λ r. ⌜ r ≡ armedCount (now (s .entry)) (now (plan .entry)) first (environment (now (program .entry)) (now (monitor .entry)) []) ⌝ }
     ensures { λ _. ⌜ now (row .exit) ≡ set (sets (now (row .entry)) (at + 3) (take mostArmed (armedIn (now (s .entry)) (now (plan .entry)) first (environment (now (program .entry)) (now (monitor .entry)) [])))) (at + 2) (length (armedIn (now (s .entry)) (now (plan .entry)) first (environment (now (program .entry)) (now (monitor .entry)) []))) ⌝ }
 {
     let mut count: u32 = 0;
+    let mut evaluated = 0;
     let mut to = at + 3;
     let mut i = first;
     while i < 384 {
-        if holds(
+        let held = holds(
             s,
             broad(plan[1192 + 3 * i]),
             program,
             monitor,
             &program[..0],
-        ) {
+        );
+        evaluated += held.count;
+        if held.holds {
             if count < MOST_ARMED {
                 row[to] = long(plan[1193 + 3 * i]);
                 to += 1;
@@ -192,9 +250,11 @@ fn arm<'a>(
         i = i + 1 + broad(plan[1194 + 3 * i]);
     }
     row[at + 2] = count;
+    evaluated
 }
 
-// The lowest number armed for the call at a place whose postcondition fails, or 256.
+// The lowest number armed for the call at a place whose postcondition fails, or 256; all of them are
+// judged.
 fn lowest_failing<'a>(
     s: &[u8],
     plan: &[u16; PLAN],
@@ -202,23 +262,29 @@ fn lowest_failing<'a>(
     at: usize,
     program: &'a [u32],
     monitor: &'a [u32],
-) -> u16
+) -> Lowest
     requires { ⌜ at + 16 ≤ 256 ⌝ }
-    ensures { λ r. ⌜ r ≡ lowIn (now (s .entry)) (now (plan .entry)) (now (row .entry)) at (now (program .entry)) (now (monitor .entry)) ⌝ }
+    ensures { λ r. ⌜ (r .number ≡ lowIn (now (s .entry)) (now (plan .entry)) (now (row .entry)) at (now (program .entry)) (now (monitor .entry))) × (r .count ≡ lowCount (now (s .entry)) (now (plan .entry)) (now (row .entry)) at (now (program .entry)) (now (monitor .entry))) ⌝ }
 {
     let all = &row[..];
     let kept = condition::front(&all[at + 8..at + 16], broad(plan[1]));
     let count = four(row[at + 2]);
-    let mut low = 256;
+    let mut number = 256;
+    let mut evaluated = 0;
     let mut i = 0;
     while i < count {
         let n = row[at + 3 + i];
-        if holds(s, post(plan, n), program, monitor, kept) {} else {
-            low = lesser(low, n);
+        let held = holds(s, post(plan, n), program, monitor, kept);
+        evaluated += held.count;
+        if held.holds {} else {
+            number = lesser(number, n);
         }
         i += 1;
     }
-    low
+    Lowest {
+        number,
+        count: evaluated,
+    }
 }
 
 // At most four.
@@ -246,12 +312,15 @@ fn post(plan: &[u16; PLAN], n: u32) -> usize
     if i < 32 { broad(plan[520 + i]) } else { 0 }
 }
 
-// Whether the condition at a place holds; 0 stands for `true`.
-fn holds<'a>(s: &[u8], at: usize, program: &'a [u32], monitor: &'a [u32], kept: &'a [u32]) -> bool
-    ensures { λ r. ⌜ r ≡ holdsBy (now (s .entry)) at (environment (now (program .entry)) (now (monitor .entry)) (now (kept .entry))) ⌝ }
+// Whether the condition at a place holds, and how much of it was evaluated; 0 stands for `true`.
+fn holds<'a>(s: &[u8], at: usize, program: &'a [u32], monitor: &'a [u32], kept: &'a [u32]) -> Held
+    ensures { λ r. ⌜ (r .holds ≡ holdsBy (now (s .entry)) at (environment (now (program .entry)) (now (monitor .entry)) (now (kept .entry)))) × (r .count ≡ countBy (now (s .entry)) at (environment (now (program .entry)) (now (monitor .entry)) (now (kept .entry)))) ⌝ }
 {
     if at == 0 {
-        true
+        Held {
+            holds: true,
+            count: 1,
+        }
     } else {
         condition::holds_at(s, at, program, monitor, kept)
     }

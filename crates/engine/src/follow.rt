@@ -11,7 +11,7 @@ ghost use Rattle.sheet.specs.Decode.{wordForm};
 ghost use Rattle.sheet.specs.Log.{logReading, eventsOf};
 ghost use Rattle.step.specs.Calls.{mostValues};
 ghost use Rattle.step.specs.Answers.{runPaper, ranAnswer};
-ghost use Rattle.engine.specs.Runs.{startIn, followIn, endsBy, givenAt};
+ghost use Rattle.engine.specs.Runs.{startIn, followIn, followCount, endsBy, givenAt};
 use crate::Given;
 use crate::PLAN;
 use crate::Running;
@@ -19,14 +19,16 @@ use crate::advance;
 use crate::place;
 use crate::wide;
 use condition::VARIABLES;
+use step::Counted;
 use step::Outcome;
 use step::RunAnswer;
 use step::VALUES;
 
 // Follows the records of a log, of so many values each, from the state before the first event.
-pub(crate) fn follow(s: &[u8], plan: &[u16; PLAN], log: &[u8], programs: u8) -> RunAnswer
+pub(crate) fn follow(s: &[u8], plan: &[u16; PLAN], log: &[u8], programs: u8) -> Counted
     requires { ⌜ (logReading programs (now log) ≡ 0) × (programs ≤ mostValues) ⌝ }
-    ensures { λ r. ⌜ runPaper r ≡ ranAnswer endsBy (followIn (now (s .entry)) (now (plan .entry)) (eventsOf programs (now (log .entry)))) ⌝ }
+    ensures { λ r. ⌜ runPaper (r .answer) ≡ ranAnswer endsBy (followIn (now (s .entry)) (now (plan .entry)) (eventsOf programs (now (log .entry)))) ⌝ }
+    ensures { λ r. ⌜ r .count ≡ followCount (now (s .entry)) (now (plan .entry)) (eventsOf programs (now (log .entry))) ⌝ }
 {
     let count = wide(programs);
     let size = 4 + 4 * count;
@@ -36,6 +38,7 @@ pub(crate) fn follow(s: &[u8], plan: &[u16; PLAN], log: &[u8], programs: u8) -> 
     let mut variables = initial(s);
     let mut values = [0u32; VALUES];
     let mut i: u32 = 0;
+    let mut total: u64 = 0;
     let mut at = 6;
     while at < end {
         let given = given_at(log, at, programs);
@@ -43,19 +46,32 @@ pub(crate) fn follow(s: &[u8], plan: &[u16; PLAN], log: &[u8], programs: u8) -> 
         let next = advance(s, plan, run, &mut row, &mut variables, given, &values);
         i += 1;
         if next.answer == 0 {} else {
-            return RunAnswer::RefusedAt(next.answer, i);
+            return counted(RunAnswer::RefusedAt(next.answer, i), total);
         }
+        total += double(next.count);
         run = next.run;
         let outcome = run.outcome;
         match outcome {
             Outcome::Judged(v) => {
-                return RunAnswer::Violated(v);
+                return counted(RunAnswer::Violated(v), total);
             }
             Outcome::Open => {}
         }
         at += size;
     }
-    RunAnswer::Clean(run.position, run.main, run.opened)
+    counted(RunAnswer::Clean(run.position, run.main, run.opened), total)
+}
+
+fn counted(answer: RunAnswer, count: u64) -> Counted
+    ensures { λ r. ⌜ r ≡ record { answer = answer; count = count } ⌝ }
+{
+    Counted { answer, count }
+}
+
+fn double(x: u32) -> u64
+    ensures { λ r. ⌜ r ≡ x ⌝ }
+{
+    x as u64
 }
 
 // What is beside calls and variables before the first event.

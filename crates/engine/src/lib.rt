@@ -10,12 +10,14 @@ ghost use Rattle.sheet.specs.Log.{logReading, eventsOf};
 ghost use Rattle.step.specs.Calls.{mostValues};
 ghost use Rattle.step.specs.Answers.{runPaper, unlessTaken, unlessRefused, ranAnswer};
 ghost use Rattle.engine.specs.Prepared.{sheetInto, networkInto};
-ghost use Rattle.engine.specs.Runs.{followIn, endsBy, sheetRun, networkRun};
-ghost use Rattle.engine.specs.Walk.{words, offerIn};
+ghost use Rattle.engine.specs.Runs.{followIn, followCount, endsBy, sheetRun, sheetCount, networkRun, networkCount};
+ghost use Rattle.step.specs.declared.RunAnswer.the-variants as run;
+ghost use Rattle.engine.specs.Walk.{words, offerIn, eventCountIn};
 use condition::VARIABLES;
 use sheet::LogReading;
 use sheet::Reading;
 use step::CALLS;
+use step::Counted;
 use step::Outcome;
 use step::RunAnswer;
 use step::VALUES;
@@ -51,10 +53,11 @@ pub struct Given {
     pub count: usize,
 }
 
-// What an event comes to: 0 where it is taken, or the refusal's number, and what is beside the calls
-// and variables.
+// What an event comes to: 0 where it is taken, or the refusal's number; how much was evaluated; and
+// what is beside the calls and variables.
 pub struct Advanced {
     pub answer: u8,
+    pub count: u32,
     pub run: Running,
 }
 
@@ -87,19 +90,19 @@ pub fn prepare_network(s: &[u8], plan: &mut [u16; PLAN]) -> Reading
 }
 
 // Runs a log from the fresh state of a sheet.
-pub fn run_sheet(s: &[u8], log: &[u8]) -> RunAnswer
-    ensures { λ r. ⌜ runPaper r ≡ sheetRun (now (s .entry)) (now (log .entry)) ⌝ }
+pub fn run_sheet(s: &[u8], log: &[u8]) -> Counted
+    ensures { λ r. ⌜ (runPaper (r .answer) ≡ sheetRun (now (s .entry)) (now (log .entry))) × (r .count ≡ sheetCount (now (s .entry)) (now (log .entry))) ⌝ }
 {
     let mut plan = [ABSENT; PLAN];
     match prepare_sheet(s, &mut plan) {
         Reading::Accepted => run_planned(s, &plan, log),
-        Reading::Refused(n) => RunAnswer::Refused(n),
+        Reading::Refused(n) => unread(n),
     }
 }
 
 // Runs a log from the fresh state of a network.
-pub fn run_network(s: &[u8], log: &[u8]) -> RunAnswer
-    ensures { λ r. ⌜ runPaper r ≡ networkRun (now (s .entry)) (now (log .entry)) ⌝ }
+pub fn run_network(s: &[u8], log: &[u8]) -> Counted
+    ensures { λ r. ⌜ (runPaper (r .answer) ≡ networkRun (now (s .entry)) (now (log .entry))) × (r .count ≡ networkCount (now (s .entry)) (now (log .entry))) ⌝ }
 {
     let mut plan = [ABSENT; PLAN];
     match prepare_network(s, &mut plan) {
@@ -107,19 +110,30 @@ pub fn run_network(s: &[u8], log: &[u8]) -> RunAnswer
             let size = length_said(s);
             run_planned(s, &plan, log)
         }
-        Reading::Refused(n) => RunAnswer::Refused(n),
+        Reading::Refused(n) => unread(n),
     }
 }
 
 // Reads a log and follows it.
-fn run_planned(s: &[u8], plan: &[u16; PLAN], log: &[u8]) -> RunAnswer
+fn run_planned(s: &[u8], plan: &[u16; PLAN], log: &[u8]) -> Counted
     requires { ⌜ byte (now s) 5 ≤ mostValues ⌝ }
-    ensures { λ r. ⌜ runPaper r ≡ unlessRefused (logReading (byte (now (s .entry)) 5) (now (log .entry))) (ranAnswer endsBy (followIn (now (s .entry)) (now (plan .entry)) (eventsOf (byte (now (s .entry)) 5) (now (log .entry))))) ⌝ }
+    ensures { λ r. ⌜ runPaper (r .answer) ≡ unlessRefused (logReading (byte (now (s .entry)) 5) (now (log .entry))) (ranAnswer endsBy (followIn (now (s .entry)) (now (plan .entry)) (eventsOf (byte (now (s .entry)) 5) (now (log .entry))))) ⌝ }
+    ensures { λ r. ⌜ r .count ≡ unlessTaken (logReading (byte (now (s .entry)) 5) (now (log .entry))) 0 (followCount (now (s .entry)) (now (plan .entry)) (eventsOf (byte (now (s .entry)) 5) (now (log .entry)))) ⌝ }
 {
     let h = sheet::header_of(s);
     match sheet::read_log(log, h.programs) {
         LogReading::Records(_) => follow::follow(s, plan, log, h.programs),
-        LogReading::Refused(n) => RunAnswer::Refused(n),
+        LogReading::Refused(n) => unread(n),
+    }
+}
+
+// A run of which the sheet, the network or the log is refused.
+fn unread(n: u8) -> Counted
+    ensures { λ r. ⌜ r ≡ record { answer = run.Refused n; count = 0 } ⌝ }
+{
+    Counted {
+        answer: RunAnswer::Refused(n),
+        count: 0,
     }
 }
 
@@ -140,31 +154,46 @@ pub fn advance(
     given: Given,
     values: &[u32; VALUES],
 ) -> Advanced
-    ensures { λ r. ⌜ r ≡ record { answer = offerIn (now (s .entry)) (now (plan .entry)) (words run (now (row .entry)) (now (variables .entry))) given (now (values .entry)) .answer; run = offerIn (now (s .entry)) (now (plan .entry)) (words run (now (row .entry)) (now (variables .entry))) given (now (values .entry)) .state .run } ⌝ }
+    ensures { λ r. ⌜ r ≡ record { answer = offerIn (now (s .entry)) (now (plan .entry)) (words run (now (row .entry)) (now (variables .entry))) given (now (values .entry)) .answer; count = eventCountIn (now (s .entry)) (now (plan .entry)) (words run (now (row .entry)) (now (variables .entry))) given (now (values .entry)); run = offerIn (now (s .entry)) (now (plan .entry)) (words run (now (row .entry)) (now (variables .entry))) given (now (values .entry)) .state .run } ⌝ }
     ensures { λ _. ⌜ (now (row .exit) ≡ offerIn (now (s .entry)) (now (plan .entry)) (words run (now (row .entry)) (now (variables .entry))) given (now (values .entry)) .state .row) × (now (variables .exit) ≡ offerIn (now (s .entry)) (now (plan .entry)) (words run (now (row .entry)) (now (variables .entry))) given (now (values .entry)) .state .variables) ⌝ }
 {
     if run.opened <= MOST_OPENED {} else {
-        return Advanced { answer: 9, run };
+        return refused(9, run);
     }
     let place = row::place_of(row, wide(run.opened), long(given.number));
     let n = row::refusal(plan, run, row, given, place);
     if n == 0 {} else {
-        return Advanced { answer: n, run };
+        return refused(n, run);
     }
     if given.kind == 0 {
-        Advanced {
-            answer: 0,
-            run: event::entered(s, plan, run, row, variables, given, values),
-        }
+        taken(event::entered(s, plan, run, row, variables, given, values))
     } else {
         let leaving = event::Leaving {
             unit: given.unit,
             place,
         };
-        Advanced {
-            answer: 0,
-            run: event::exited(s, plan, run, row, variables, leaving, values),
-        }
+        taken(event::exited(s, plan, run, row, variables, leaving, values))
+    }
+}
+
+fn refused(answer: u8, run: Running) -> Advanced
+    ensures { λ r. ⌜ r ≡ record { answer = answer; count = 0; run = run } ⌝ }
+{
+    Advanced {
+        answer,
+        count: 0,
+        run,
+    }
+}
+
+fn taken(t: event::Taken) -> Advanced
+    ensures { λ r. ⌜ r ≡ record { answer = 0; count = t .count; run = t .run } ⌝ }
+{
+    let run = t.run;
+    Advanced {
+        answer: 0,
+        count: t.count,
+        run,
     }
 }
 

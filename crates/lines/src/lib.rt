@@ -5,6 +5,7 @@ ghost use Prim.Native.Nat.{_≤_, _<_};
 ghost use lib.ListN.{length};
 ghost use lib.Seq.{sets};
 ghost use Rattle.step.specs.Answers.{runPaper};
+ghost use Rattle.monitor.specs.Answers.{runOf};
 ghost use Rattle.lines.specs.Lines.{sheetSize, networkRun, linesOf};
 use step::RunAnswer;
 use translation::Translated;
@@ -23,7 +24,7 @@ pub fn lines(input: &[u8], out: &mut [u8]) -> usize
     let n = sheet_size(input);
     let sheet = &input[..n];
     let log = &input[n..];
-    let next = text::line(out, 0, monitor::run(sheet, log));
+    let next = text::line(out, 0, sheet_run(sheet, log));
     text::line(out, next, network_run(sheet, log))
 }
 
@@ -42,13 +43,24 @@ fn sheet_size(input: &[u8]) -> usize
     }
 }
 
+// Runs a log on a sheet; what it counts is not printed.
+fn sheet_run(s: &[u8], log: &[u8]) -> RunAnswer
+    ensures { λ r. ⌜ runPaper r ≡ runOf (now (s .entry)) (now (log .entry)) ⌝ }
+{
+    let ran = monitor::run(s, log);
+    ran.answer
+}
+
 // Translates a sheet and runs a log on its network.
 fn network_run(s: &[u8], log: &[u8]) -> RunAnswer
     ensures { λ r. ⌜ runPaper r ≡ networkRun (now (s .entry)) (now (log .entry)) ⌝ }
 {
     let mut buffer = [0u8; 8192];
     match translation::translate(s, &mut buffer) {
-        Translated::Written(n) => network::run(&buffer[..n], log),
+        Translated::Written(n) => {
+            let ran = network::run(&buffer[..n], log);
+            ran.answer
+        }
         Translated::Refused(n) => RunAnswer::Refused(n),
     }
 }

@@ -4,3 +4,4 @@ pub mod Arming
 pub mod Soundness
 pub mod Views
 pub mod Lasting
+pub mod Counted

@@ -1,9 +1,9 @@
--- What is claimed of states and of open calls beside what the operations promise; demand 2 is in `Demand`.
+-- What is claimed of states, of counts and of open calls beside what the operations promise; demand 2 is in `Demand`.
 use mathlib.Core.Path.{_≡_}
 use mathlib.Core.Bool.{true, false}
 use mathlib.Core.Option.{Option}
 use mathlib.Core.List.{List, [], _∷_, _++_}
-use Prim.Native.Nat.{ℕ, _≤_, _<_}
+use Prim.Native.Nat.{ℕ, _+_, _*_, _≤_, _<_}
 use lib.Dec.{eqb}
 use lib.ListN.{length}
 use Rattle.sheet.specs.Parts.{Sheet}
@@ -16,7 +16,7 @@ use Rattle.monitor.specs.declared.WatchState.{WatchState}
 use Rattle.monitor.specs.Published.{Leading, Breaks}
 use Rattle.monitor.specs.Demand.{stillOpen, refusalAfter, Taken, Violated}
 use Rattle.monitor.specs.Padded.{soundState, freshOf}
-use Rattle.monitor.specs.Answers.{offerOf}
+use Rattle.monitor.specs.Answers.{offerOf, countOf}
 
 -- A state that offering events leads to from the fresh one, taken or refused.
 pub data Reached (s : List ℕ) : WatchState → Type 0 where
@@ -31,6 +31,13 @@ pub record SoundKept (s : List ℕ) : Type 0 where
 
 abbrev pub Soundness : Type 0
 Soundness = (s : List ℕ) → reading sheetLayout s ≡ 0 → SoundKept s
+
+-- Document 02, request 3: one event on a sheet counts "never above 4,416": 64 conditions, an action, and four pre- or postconditions, of 64 bytes each.
+abbrev pub mostCounted : ℕ
+mostCounted = 64 * 64 + 64 + 4 * 64
+
+abbrev pub FewCounted : Type 0
+FewCounted = (s : List ℕ) (w : WatchState) (e : Event) → countOf s w e ≤ mostCounted
 
 -- Sentences of document 01 on calls, on traces.
 pub record Calls (S : Sheet) (R : Leading) : Type 0 where

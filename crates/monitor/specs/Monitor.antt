@@ -9,12 +9,13 @@ use Rattle.condition.specs.Meaning.{environment}
 use Rattle.sheet.specs.declared.Triple.{Triple}
 use Rattle.sheet.specs.Parts.{Sheet}
 use Rattle.sheet.specs.Log.{Event}
-use Rattle.step.specs.Lists.{first, keep, numbers, least}
-use Rattle.step.specs.Meets.{meets}
-use Rattle.step.specs.Moves.{Configuration, seen, moved}
+use Rattle.step.specs.Lists.{first, keep, numbers, least, total}
+use Rattle.step.specs.Meets.{meets, meetsCount}
+use Rattle.step.specs.Moves.{Configuration, seen, moved, movedCount}
 use Rattle.step.specs.Calls.{Call, isEntry, entryFor, refusals, lowest}
 use Rattle.step.specs.Verdicts.{verdict, isJudged}
-use Rattle.step.specs.Runs.{Offered, offered, Ran, runFrom}
+use Rattle.step.specs.Runs.{Offered, offered, Ran, runFrom, runCountFrom}
+use Rattle.step.specs.Answers.{unlessTaken}
 use Rattle.engine.specs.Machine as Machine
 
 -- an open call with the numbers of the triples armed for it, and a state: those of every machine
@@ -86,3 +87,22 @@ offer S σ e = offered (refusal S σ e) σ (cond (isEntry e) (entered S σ e) (e
 
 unfoldable pub run : Sheet → List Event → Ran State
 run S es = runFrom (offer S) (λ σ. σ .verdict) 1 (fresh S) es
+
+-- Document 02, request 3: "One event on a sheet adds up the conditions tried, the values assigned and the pre- and postconditions judged": at an entry the
+-- preconditions of every triple of the state and unit, at an exit the postconditions of every triple armed for the call.
+unfoldable pub preconditionCount : Sheet → Configuration → Event → ℕ
+preconditionCount S k e = total (λ (t : Triple). meetsCount (S .common) (t .precondition) (seen e k)) (keep (λ (t : Triple). eqb (t .state) (k .main) && eqb (t .unit) (e .unit)) (S .triples))
+
+abbrev pub postconditionCount : Sheet → Configuration → Event → Option Armed → ℕ
+postconditionCount S k e none = 0
+postconditionCount S k e (some a) = total (λ i. meetsCount (S .common) (tripleIn S i .postcondition) (environment (e .values) (k .variables) (a .call .kept))) (a .armed)
+
+-- "(A refused event .. counts 0.)"
+unfoldable pub count : Sheet → State → Event → ℕ
+count S σ e =
+    let k = σ .configuration in
+    let judged = cond (isEntry e) (preconditionCount S k e) (postconditionCount S k e (first (ofNumber (e .number)) (σ .calls))) in
+    unlessTaken (refusal S σ e) 0 (movedCount (S .common) (S .transitions) k e + judged)
+
+unfoldable pub runCount : Sheet → List Event → ℕ
+runCount S es = runCountFrom (offer S) (λ σ. σ .verdict) (count S) (fresh S) es

@@ -8,7 +8,7 @@ ghost use Rattle.sheet.specs.Reading.{reading, sheetLayout};
 ghost use Rattle.step.specs.Calls.{eventOf};
 ghost use Rattle.step.specs.Answers.{answerPaper, answerOf};
 ghost use Rattle.engine.specs.Prepared.{sheetPlan};
-ghost use Rattle.monitor.specs.Answers.{offerOf};
+ghost use Rattle.monitor.specs.Answers.{offerOf, countOf};
 ghost use Rattle.monitor.specs.Padded.{soundState};
 use crate::Offered;
 use crate::WatchState;
@@ -28,6 +28,7 @@ pub(crate) fn offer_accepted(
     requires { ⌜ (reading sheetLayout (now s) ≡ 0) × (now plan ≡ sheetPlan (now s)) ⌝ }
     ensures { λ r. ⌜ answerPaper (r .answer) ≡ answerOf (offerOf (now (s .entry)) state (eventOf event (now (values .entry))) .answer) ⌝ }
     ensures { λ r. ⌜ r .state ≡ offerOf (now (s .entry)) state (eventOf event (now (values .entry))) .state ⌝ }
+    ensures { λ r. ⌜ r .count ≡ countOf (now (s .entry)) state (eventOf event (now (values .entry))) ⌝ }
 {
     let t = sound::tables_of(s, plan[5]);
     if sound::sound(s, t, state) {
@@ -35,6 +36,7 @@ pub(crate) fn offer_accepted(
     } else {
         Offered {
             answer: Answer::Refused(9),
+            count: 0,
             state,
         }
     }
@@ -50,6 +52,7 @@ fn offer_sound(
     requires { ⌜ (reading sheetLayout (now s) ≡ 0) × (now plan ≡ sheetPlan (now s)) × (soundState (sheetOf (now s)) state ≡ true) ⌝ }
     ensures { λ r. ⌜ answerPaper (r .answer) ≡ answerOf (offerOf (now (s .entry)) state (eventOf event (now (values .entry))) .answer) ⌝ }
     ensures { λ r. ⌜ r .state ≡ offerOf (now (s .entry)) state (eventOf event (now (values .entry))) .state ⌝ }
+    ensures { λ r. ⌜ r .count ≡ countOf (now (s .entry)) state (eventOf event (now (values .entry))) ⌝ }
 {
     let given = engine::pack::given(event, values);
     let eight = step::rows::eight(values);
@@ -62,11 +65,13 @@ fn offer_sound(
         let monitors = sound::broad(plan[2]);
         Offered {
             answer: Answer::Taken,
+            count: next.count,
             state: pack::unpack(next.run, &row, &variables, programs, monitors),
         }
     } else {
         Offered {
             answer: Answer::Refused(next.answer),
+            count: 0,
             state,
         }
     }

@@ -1,7 +1,7 @@
 // The engine on a sheet: its state, one event, a log.
 
 ghost use mathlib.Core.Path.{_≡_};
-ghost use Rattle.monitor.specs.Answers.{offerOf, runOf};
+ghost use Rattle.monitor.specs.Answers.{offerOf, runOf, countOf, runCountOf};
 ghost use Rattle.monitor.specs.Padded.{zeroState, pad, freshOf};
 ghost use Rattle.monitor.specs.Monitor.{fresh};
 ghost use Rattle.sheet.specs.Decode.{sheetOf};
@@ -13,8 +13,8 @@ use sheet::Reading;
 use sheet::Record;
 use step::Answer;
 use step::Call;
+use step::Counted;
 use step::Outcome;
-use step::RunAnswer;
 
 mod accepted;
 mod pack;
@@ -43,9 +43,10 @@ pub struct Fresh {
     pub state: WatchState,
 }
 
-// What offering an event answers, and the state that comes back.
+// What offering an event answers, how much was evaluated, and the state that comes back.
 pub struct Offered {
     pub answer: Answer,
+    pub count: u32,
     pub state: WatchState,
 }
 
@@ -116,20 +117,22 @@ impl WatchState {
 pub fn offer(s: &[u8], state: WatchState, event: Record, values: &[u32]) -> Offered
     ensures { λ r. ⌜ answerPaper (r .answer) ≡ answerOf (offerOf (now (s .entry)) state (eventOf event (now (values .entry))) .answer) ⌝ }
     ensures { λ r. ⌜ r .state ≡ offerOf (now (s .entry)) state (eventOf event (now (values .entry))) .state ⌝ }
+    ensures { λ r. ⌜ r .count ≡ countOf (now (s .entry)) state (eventOf event (now (values .entry))) ⌝ }
 {
     let mut plan = [engine::ABSENT; engine::PLAN];
     match engine::prepare_sheet(s, &mut plan) {
         Reading::Accepted => accepted::offer_accepted(s, &plan, state, event, values),
         Reading::Refused(n) => Offered {
             answer: Answer::Refused(n),
+            count: 0,
             state,
         },
     }
 }
 
 // Runs a log from the fresh state of a sheet.
-pub fn run(s: &[u8], log: &[u8]) -> RunAnswer
-    ensures { λ r. ⌜ runPaper r ≡ runOf (now (s .entry)) (now (log .entry)) ⌝ }
+pub fn run(s: &[u8], log: &[u8]) -> Counted
+    ensures { λ r. ⌜ (runPaper (r .answer) ≡ runOf (now (s .entry)) (now (log .entry))) × (r .count ≡ runCountOf (now (s .entry)) (now (log .entry))) ⌝ }
 {
     engine::run_sheet(s, log)
 }

@@ -158,6 +158,7 @@ fn offer(s: &[u8], at: usize, bench: Bench, keep: bool) -> Bench
     let answer = offered.answer;
     let state = offered.state;
     print_answer(answer);
+    print_decimal(b" count ", offered.count as u64);
     print_state(state);
     if keep {
         Bench { state, ..bench }
@@ -175,7 +176,8 @@ fn print_answer(a: Answer) {
 
 // Runs the log between two places.
 fn run(s: &[u8], start: usize, end: usize, bench: Bench) -> Bench {
-    let answer = monitor::run(part(s, bench.start, bench.end), part(s, start, end));
+    let ran = monitor::run(part(s, bench.start, bench.end), part(s, start, end));
+    let answer = ran.answer;
     match answer {
         RunAnswer::Violated(v) => print_found(v),
         RunAnswer::Clean(events, state, opened) => {
@@ -189,6 +191,7 @@ fn run(s: &[u8], start: usize, end: usize, bench: Bench) -> Bench {
             print_decimal(b" at ", record as u64);
         }
     }
+    print_decimal(b" count ", ran.count);
     print(b"\n");
     bench
 }

@@ -6,3 +6,4 @@ pub mod Created
 pub mod Soundness
 pub mod Lasting
 pub mod Starting
+pub mod Counted

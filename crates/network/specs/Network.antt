@@ -12,12 +12,13 @@ use Rattle.sheet.specs.Parts.{Paired, Network, bases}
 use Rattle.sheet.specs.Reading.{noTemplate}
 use Rattle.sheet.specs.Log.{Event}
 use Rattle.step.specs.declared.Verdict.{Verdict}
-use Rattle.step.specs.Lists.{first, keep, least}
-use Rattle.step.specs.Meets.{meets}
-use Rattle.step.specs.Moves.{Configuration, seen, enabled, moved}
+use Rattle.step.specs.Lists.{first, keep, least, total}
+use Rattle.step.specs.Meets.{meets, meetsCount}
+use Rattle.step.specs.Moves.{Configuration, seen, enabled, moved, movedCount}
 use Rattle.step.specs.Calls.{Call, isEntry, entryFor, refusals, lowest}
 use Rattle.step.specs.Verdicts.{isJudged, verdict}
-use Rattle.step.specs.Runs.{Offered, offered, Ran, runFrom}
+use Rattle.step.specs.Runs.{Offered, offered, Ran, runFrom, runCountFrom}
+use Rattle.step.specs.Answers.{unlessTaken}
 use Rattle.network.specs.declared.Checker.{Checker}
 
 -- A checker has the number of its call, and its template; its values at entry are those that the call keeps.
@@ -94,3 +95,22 @@ offer N σ e = offered (refusal N σ e) σ (cond (isEntry e) (entered N σ e) (e
 
 unfoldable pub run : Network → List Event → Ran State
 run N es = runFrom (offer N) (λ σ. σ .verdict) 1 (fresh N) es
+
+-- Document 02, request 3: "A network event counts by the same rule": at an entry the conditions of every pair of the transition that is taken, at an exit the
+-- postconditions of every checker of the call.
+unfoldable pub pairCount : Network → Configuration → Event → ℕ
+pairCount N k e = total (λ (p : Pair). meetsCount (N .common) (p .condition) (seen e k)) (pairsIn (first (λ (t : Paired). enabled (N .common) k e (t .base)) (N .transitions)))
+
+abbrev pub postconditionCount : Network → Configuration → Event → List Checker → Option Call → ℕ
+postconditionCount N k e l none = 0
+postconditionCount N k e l (some c) = total (λ (h : Checker). meetsCount (N .common) (templateIn N (h .template) .postcondition) (environment (e .values) (k .variables) (c .kept))) (keep (boundTo (c .number)) l)
+
+-- "(A refused event .. counts 0.)"
+unfoldable pub count : Network → State → Event → ℕ
+count N σ e =
+    let k = σ .configuration in
+    let judged = cond (isEntry e) (pairCount N k e) (postconditionCount N k e (σ .checkers) (first (ofNumber (e .number)) (σ .calls))) in
+    unlessTaken (refusal N σ e) 0 (movedCount (N .common) (bases N) k e + judged)
+
+unfoldable pub runCount : Network → List Event → ℕ
+runCount N es = runCountFrom (offer N) (λ σ. σ .verdict) (count N) (fresh N) es

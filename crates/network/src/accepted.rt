@@ -11,7 +11,7 @@ ghost use Rattle.sheet.specs.Reading.{reading, networkLayout};
 ghost use Rattle.step.specs.Calls.{eventOf};
 ghost use Rattle.step.specs.Answers.{answerPaper, answerOf};
 ghost use Rattle.engine.specs.Prepared.{networkPlan};
-ghost use Rattle.network.specs.Answers.{offerOf};
+ghost use Rattle.network.specs.Answers.{offerOf, countOf};
 ghost use Rattle.network.specs.Padded.{soundState};
 use crate::NetworkState;
 use crate::Offered;
@@ -32,6 +32,7 @@ pub(crate) fn offer_accepted(
     requires { ⌜ (reading networkLayout (now s) ≡ 0) × (now plan ≡ networkPlan (now s)) ⌝ }
     ensures { λ r. ⌜ answerPaper (r .answer) ≡ answerOf (offerOf (now (s .entry)) state (eventOf event (now (values .entry))) .answer) ⌝ }
     ensures { λ r. ⌜ r .state ≡ offerOf (now (s .entry)) state (eventOf event (now (values .entry))) .state ⌝ }
+    ensures { λ r. ⌜ r .count ≡ countOf (now (s .entry)) state (eventOf event (now (values .entry))) ⌝ }
 {
     let size = length_said(s);
     let t = sound::tables_of(s, plan[5]);
@@ -40,6 +41,7 @@ pub(crate) fn offer_accepted(
     } else {
         Offered {
             answer: Answer::Refused(9),
+            count: 0,
             state,
         }
     }
@@ -55,6 +57,7 @@ fn offer_sound(
     requires { ⌜ (reading networkLayout (now s) ≡ 0) × (length (now s) < 65536) × (now plan ≡ networkPlan (now s)) × (soundState (networkOf (now s)) state ≡ true) ⌝ }
     ensures { λ r. ⌜ answerPaper (r .answer) ≡ answerOf (offerOf (now (s .entry)) state (eventOf event (now (values .entry))) .answer) ⌝ }
     ensures { λ r. ⌜ r .state ≡ offerOf (now (s .entry)) state (eventOf event (now (values .entry))) .state ⌝ }
+    ensures { λ r. ⌜ r .count ≡ countOf (now (s .entry)) state (eventOf event (now (values .entry))) ⌝ }
 {
     let given = engine::pack::given(event, values);
     let eight = step::rows::eight(values);
@@ -67,11 +70,13 @@ fn offer_sound(
         let monitors = sound::broad(plan[2]);
         Offered {
             answer: Answer::Taken,
+            count: next.count,
             state: pack::unpack(next.run, &row, &variables, programs, monitors),
         }
     } else {
         Offered {
             answer: Answer::Refused(next.answer),
+            count: 0,
             state,
         }
     }

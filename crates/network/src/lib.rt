@@ -6,15 +6,15 @@ ghost use Rattle.sheet.specs.Reading.{reading, networkLayout};
 ghost use Rattle.sheet.specs.Answer.{readingPaper, answer};
 ghost use Rattle.step.specs.Calls.{eventOf};
 ghost use Rattle.step.specs.Answers.{answerPaper, answerOf, runPaper};
-ghost use Rattle.network.specs.Answers.{offerOf, runOf, entryValues};
+ghost use Rattle.network.specs.Answers.{offerOf, runOf, countOf, runCountOf, entryValues};
 ghost use Rattle.network.specs.Network.{fresh};
 ghost use Rattle.network.specs.Padded.{zeroState, pad, freshOf};
 use sheet::Reading;
 use sheet::Record;
 use step::Answer;
 use step::Call;
+use step::Counted;
 use step::Outcome;
-use step::RunAnswer;
 
 mod accepted;
 mod entry;
@@ -47,9 +47,10 @@ pub struct Fresh {
     pub state: NetworkState,
 }
 
-// What offering an event answers, and the state that comes back.
+// What offering an event answers, how much was evaluated, and the state that comes back.
 pub struct Offered {
     pub answer: Answer,
+    pub count: u32,
     pub state: NetworkState,
 }
 
@@ -122,20 +123,22 @@ impl NetworkState {
 pub fn offer(s: &[u8], state: NetworkState, event: Record, values: &[u32]) -> Offered
     ensures { λ r. ⌜ answerPaper (r .answer) ≡ answerOf (offerOf (now (s .entry)) state (eventOf event (now (values .entry))) .answer) ⌝ }
     ensures { λ r. ⌜ r .state ≡ offerOf (now (s .entry)) state (eventOf event (now (values .entry))) .state ⌝ }
+    ensures { λ r. ⌜ r .count ≡ countOf (now (s .entry)) state (eventOf event (now (values .entry))) ⌝ }
 {
     let mut plan = [engine::ABSENT; engine::PLAN];
     match engine::prepare_network(s, &mut plan) {
         Reading::Accepted => accepted::offer_accepted(s, &plan, state, event, values),
         Reading::Refused(n) => Offered {
             answer: Answer::Refused(n),
+            count: 0,
             state,
         },
     }
 }
 
 // Runs a log from the fresh state of a network.
-pub fn run(s: &[u8], log: &[u8]) -> RunAnswer
-    ensures { λ r. ⌜ runPaper r ≡ runOf (now (s .entry)) (now (log .entry)) ⌝ }
+pub fn run(s: &[u8], log: &[u8]) -> Counted
+    ensures { λ r. ⌜ (runPaper (r .answer) ≡ runOf (now (s .entry)) (now (log .entry))) × (r .count ≡ runCountOf (now (s .entry)) (now (log .entry))) ⌝ }
 {
     engine::run_network(s, log)
 }

@@ -1,17 +1,17 @@
 -- "The longest sheet has 6,782 bytes", and how long a network can be. Assumes nothing.
 use mathlib.Core.Path.{_≡_, refl, subst}
 use mathlib.Core.Bool.{Bool, true, false, cond}
-use mathlib.Core.List.{List}
-use Prim.Native.Nat.{ℕ, _+_, _*_, _≤_, _<_}
+use mathlib.Core.List.{List, [], _∷_}
+use Prim.Native.Nat.{ℕ, zero, suc, _+_, _*_, _≤_, _<_}
 use native.Mathlib.Omega.{arith}
 use native.Mathlib.Nat.{le-refl, mul-le-mul-right}
 use borrow.Author.Tests.{ne-eqb}
-use lib.ListN.{length, drop}
+use lib.ListN.{length, getD, drop, length-take}
 use Rattle.sheet.specs.Bytes.{byte}
 use Rattle.sheet.specs.Table.{records, extent, every}
 use Rattle.sheet.specs.Parts.{Network}
-use Rattle.sheet.specs.Decode.{wide, wordForm, lead, textForm, lengthForm, conditionsIn, actionsIn, transitionsIn, lastIn, conditionsAt, actionsAt, transitionsAt, lastAt, commonOf}
-use Rattle.sheet.specs.Reading.{Layout, between, mostBytes, reading, sheetLayout, networkLayout}
+use Rattle.sheet.specs.Decode.{wide, wordForm, lead, said, textForm, lengthForm, conditionsIn, actionsIn, transitionsIn, lastIn, conditionsAt, actionsAt, transitionsAt, lastAt, commonOf}
+use Rattle.sheet.specs.Reading.{Layout, between, mostBytes, conditionIn, reading, sheetLayout, networkLayout}
 use Rattle.sheet.specs.Encode.{encode, admitted}
 use Rattle.sheet.proofs.Tables.{length-records, fixed-extent, extent-most, same-extent}
 use Rattle.sheet.proofs.Tests.{and-iff, leb-iff}
@@ -46,6 +46,30 @@ module _ {T R : Type 0} {F : Layout T R} {s : List ℕ} (a : Accepted F s) (k m 
       let n : transitionsIn s ≤ F .transitions = rw length-records at (b .transitions) in
       let l : lastIn s ≤ 32 = rw length-records at (b .last) in
       omega (arith, length-most, b .monitors, mul-le-mul-right (lead (wide s) + mostBytes (wide s)) c, mul-le-mul-right k n, mul-le-mul-right m l)
+
+-- The texts of accepted bytes by their numbers, the default among them, have as many bytes as a length may say.
+texts-short : (w : Bool) (low n : ℕ) (s : List ℕ) → every (between low (mostBytes w)) (records (lengthForm w) n s) ≡ true → (d : List ℕ) → length d ≤ mostBytes w → (i : ℕ) → length (getD (records (textForm w) n s) i d) ≤ mostBytes w
+unfolding records every
+texts-short w low zero s e d h i = h
+texts-short w low (suc n) s e d h zero =
+    let (a, b) = simp (and-iff, leb-iff) at e in
+    omega (arith, a, length-take (said w s) (drop (lead w) s))
+texts-short w low (suc n) s e d h (suc i) =
+    let (a, b) = simp and-iff at e in
+    texts-short w low n (drop (lead w + said w s) s) b d h i
+
+module _ {T R : Type 0} {F : Layout T R} {s : List ℕ} (a : Accepted F s) (i : ℕ) where
+  pub condition-short : length (conditionIn (commonOf s) i) ≤ mostBytes (wide s)
+  unfolding commonOf
+  condition-short = texts-short (wide s) 1 (conditionsIn s) (drop (conditionsAt s) s) (condition-lengths a) (0 ∷ []) (go (wide s)) i
+    where
+      go : (w : Bool) → 1 ≤ mostBytes w
+      go true = omega arith
+      go false = omega arith
+
+  pub action-short : length (getD (commonOf s .actions) i []) ≤ 64
+  unfolding commonOf
+  action-short = texts-short false 0 (actionsIn s) (drop (actionsAt s) s) (action-lengths a) [] (omega arith) i
 
 -- 14 and 4 values, 64 conditions, 32 actions, 64 transitions of 6 bytes, 32 triples of 4
 pub sheet-narrow : (s : List ℕ) → sheetLayout .version (byte s 2) ≡ true → wide s ≡ false

@@ -6,3 +6,4 @@ pub mod Runs
 pub mod Entries
 pub mod Following
 pub mod Bridge
+pub mod Counts

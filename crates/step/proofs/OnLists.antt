@@ -1,6 +1,7 @@
 -- Lists, arrays that hold them, and the loops over both.
 pub mod Lists
 pub mod Keeping
+pub mod Sums
 pub mod Filling
 pub mod Turns
 pub mod Rising

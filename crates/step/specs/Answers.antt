@@ -1,5 +1,5 @@
 -- The answers of the engines: the paper's words and numbers for each case, and what both engines make of a refusal.
-use mathlib.Core.Bool.{Bool}
+use mathlib.Core.Bool.{Bool, cond}
 use mathlib.Core.Option.{Option}
 use mathlib.Core.List.{List}
 use Prim.Native.Nat.{ℕ, zero, suc}
@@ -69,3 +69,10 @@ unlessRefused (suc n) rest = refused (suc n)
 -- "Running it from fresh: the reading refusals; 16 ..; 17 ..; 18 .. Then events until a verdict"
 abbrev pub ranOn : {S : Type 0} → ℕ → ℕ → List ℕ → (S → Ending) → (List Event → Ran S) → Ending
 ranOn reading programs log ends run = unlessRefused reading (unlessRefused (logReading programs log) (ranAnswer ends (run (eventsOf programs log))))
+
+-- Document 02, request 3: "A refused event or evaluation counts 0"; what an event counts on sheet or network, and what running a log counts
+abbrev pub countedOn : ℕ → Bool → ℕ → ℕ
+countedOn reading sound count = unlessTaken reading 0 (cond sound count 0)
+
+abbrev pub ranCount : ℕ → ℕ → List ℕ → (List Event → ℕ) → ℕ
+ranCount reading programs log count = unlessTaken reading 0 (unlessTaken (logReading programs log) 0 (count (eventsOf programs log)))

@@ -1,10 +1,10 @@
--- Lists: the first element that passes a test, those that pass it, the least of some numbers.
+-- Lists: the first element that passes a test, those that pass it, the least of some numbers, a sum.
 use mathlib.Core.Path.{_≡_}
 use mathlib.Core.Logic.{_⊎_}
 use mathlib.Core.Bool.{Bool, true, false, not, cond, _&&_}
 use mathlib.Core.Option.{Option, none, some}
 use mathlib.Core.List.{List, [], _∷_}
-use Prim.Native.Nat.{ℕ, suc, min}
+use Prim.Native.Nat.{ℕ, suc, _+_, min}
 use lib.Dec.{eqb, ltb}
 use Rattle.sheet.specs.Table.{every}
 
@@ -20,6 +20,16 @@ first p (x ∷ l) = cond (p x) (some x) (first p l)
 unfoldable pub keep : {A : Type 0} → (A → Bool) → List A → List A
 keep p [] = []
 keep p (x ∷ l) = cond (p x) (x ∷ keep p l) (keep p l)
+
+-- up to and with the first that passes a test, or all
+unfoldable pub upTo : {A : Type 0} → (A → Bool) → List A → List A
+upTo p [] = []
+upTo p (x ∷ l) = x ∷ cond (p x) [] (upTo p l)
+
+-- a number of each element, added up
+unfoldable pub total : {A : Type 0} → (A → ℕ) → List A → ℕ
+total f [] = 0
+total f (x ∷ l) = f x + total f l
 
 unfoldable pub any : {A : Type 0} → (A → Bool) → List A → Bool
 any p [] = false

@@ -1,7 +1,7 @@
 -- One event and a run of them, on states of any kind (document 01, "One event").
 use mathlib.Core.Option.{Option, none, some}
 use mathlib.Core.List.{List, [], _∷_}
-use Prim.Native.Nat.{ℕ, zero, suc}
+use Prim.Native.Nat.{ℕ, zero, suc, _+_}
 use Rattle.sheet.specs.Log.{Event}
 use Rattle.step.specs.declared.Verdict.{Verdict}
 
@@ -36,3 +36,16 @@ runFrom offer verdict i σ (e ∷ es) =
     let o = offer σ e in
     let rest = runFrom offer verdict (suc i) (o .state) es in
     unlessRefusedAt (o .answer) i (unlessJudged (verdict (o .state)) rest)
+
+-- what is counted behind an event: nothing where it is refused or completes a verdict
+abbrev pub unlessEnded : ℕ → Option Verdict → ℕ → ℕ
+unlessEnded (suc n) v rest = 0
+unlessEnded zero (some v) rest = 0
+unlessEnded zero none rest = rest
+
+-- Document 02, request 3: of a run, the sum over its events; a refused one "counts 0". The third argument says what an event counts.
+unfoldable pub runCountFrom : {S : Type 0} → (S → Event → Offered S) → (S → Option Verdict) → (S → Event → ℕ) → S → List Event → ℕ
+runCountFrom offer verdict count σ [] = 0
+runCountFrom offer verdict count σ (e ∷ es) =
+    let o = offer σ e in
+    count σ e + unlessEnded (o .answer) (verdict (o .state)) (runCountFrom offer verdict count (o .state) es)

@@ -54,6 +54,12 @@ pub enum RunAnswer {
     RefusedAt(u8, u32),
 }
 
+// What running a log answers, and how much was evaluated in all its events.
+pub struct Counted {
+    pub answer: RunAnswer,
+    pub count: u64,
+}
+
 // An open call: its number, its unit, the position of its entry, and the values kept there.
 pub struct Call {
     pub number: u16,

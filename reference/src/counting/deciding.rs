@@ -243,7 +243,7 @@ fn of_run<R: Narrow>(rules: &R, records: &[Record]) -> Vec<String> {
     if !is_looked_at(rules, records) {
         return Vec::new();
     }
-    let outcome = run_records(rules, records);
+    let outcome = run_records(rules, records).result;
     let both = Both::of(rules);
     let decides = |oversight: &Oversight| {
         let offer = |_: &R, state: &R::State, event: &Event| oversight.offer(&both, state, event);

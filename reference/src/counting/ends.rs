@@ -249,9 +249,9 @@ impl<R: Written> Turned<R> {
             return Vec::new();
         }
         let records = short_log(&self.rules, log);
-        let outcome = run_records(&self.rules, &records);
+        let outcome = run_records(&self.rules, &records).result;
         let others = self.others.iter();
-        let differ = others.filter(|(_, other)| run_records(other, &records) != outcome);
+        let differ = others.filter(|(_, other)| run_records(other, &records).result != outcome);
         differ
             .map(|(stop, _)| self.named("run", &stop.label()))
             .collect()

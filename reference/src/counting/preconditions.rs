@@ -207,7 +207,7 @@ pub fn of_log<R: Arming>(rules: &R, log: &[u8]) -> Vec<String> {
         return Vec::new();
     }
     let records = short_log(rules, log);
-    let outcome = run_records(rules, &records);
+    let outcome = run_records(rules, &records).result;
     let decides = |misreading: &Misreading| {
         let offer =
             |rules: &R, state: &R::State, event: &Event| misreading.offer(rules, state, event);

@@ -1,9 +1,10 @@
 //! Makes many cases from a fixed seed and counts what occurred in them.
 
+use crate::counting::counts::{self, Judging};
 use crate::counting::deciding::{self, named, of_log, of_steps};
 use crate::counting::ends::{self, Turned};
 use crate::counting::entries;
-use crate::counting::preconditions::{self, Arming};
+use crate::counting::preconditions;
 use crate::implementation::engine::Engine;
 use crate::implementation::network::{Network, Version};
 use crate::implementation::program::{self, MOST_INPUT};
@@ -101,6 +102,7 @@ pub fn wanted() -> Vec<String> {
     labels.extend(ends::wanted());
     labels.extend(preconditions::wanted());
     labels.extend(entries::wanted());
+    labels.extend(counts::wanted());
     labels
 }
 
@@ -177,7 +179,7 @@ pub fn tally(seed: u64, count: usize) -> Result<Tally, String> {
 }
 
 fn count_run(case: &RunCase, tally: &mut Tally) -> Result<(), String> {
-    let outcome = run_sheet(&case.sheet, &case.log);
+    let outcome = run_sheet(&case.sheet, &case.log).result;
     tally.add(format!("sheet run: {}", outcome_label(&outcome)));
     let length = case.sheet.len() + case.log.len();
     if case.sheet.len() == LONGEST_SHEET {
@@ -205,8 +207,8 @@ fn count_card_run(case: &RunCase, tally: &mut Tally) -> Result<(), String> {
         return Ok(());
     };
     let (sheet, card) = (
-        run_sheet(&case.sheet, &case.log),
-        run_network(&buffer[..length], &case.log),
+        run_sheet(&case.sheet, &case.log).result,
+        run_network(&buffer[..length], &case.log).result,
     );
     tally.add(format!("card run: {}", outcome_label(&card)));
     if sheet != card {
@@ -229,7 +231,7 @@ pub fn of_input(sheet: &[u8], log: &[u8]) -> Vec<String> {
 
 fn count_network_run(random: &mut Random, case: &RunCase, tally: &mut Tally) {
     let own = generate::network_case(random, &case.log);
-    let outcome = run_network(&own.network, &own.log);
+    let outcome = run_network(&own.network, &own.log).result;
     tally.add(format!("network run: {}", outcome_label(&outcome)));
     if own.network.get(2) == Some(&3) {
         tally.add(format!("version 3 run: {}", outcome_label(&outcome)));
@@ -239,11 +241,12 @@ fn count_network_run(random: &mut Random, case: &RunCase, tally: &mut Tally) {
         tally.add_all(Turned::of(&network).of_log(&own.log));
         tally.add_all(preconditions::of_log(&network, &own.log));
         tally.add_all(entries::of_log(&network, &own.log));
+        tally.add_all(counts::of_log(&network, &own.log));
     }
 }
 
-/// Where an end of the range decides, how preconditions read variables, or where a call was entered: on the
-/// sheet and on its networks, in the run and in its events.
+/// Where an end of the range decides, how preconditions read variables, where a call was entered, or what is
+/// counted: on the sheet and on its networks, in the run and in its events.
 fn count_on_all(case: &RunCase, tally: &mut Tally) {
     let Ok(sheet) = Sheet::read(&case.sheet) else {
         return;
@@ -256,7 +259,7 @@ fn count_on_all(case: &RunCase, tally: &mut Tally) {
     }
 }
 
-fn of_engine<R: Arming>(rules: &R, log: &[u8]) -> Vec<String> {
+fn of_engine<R: Judging>(rules: &R, log: &[u8]) -> Vec<String> {
     let turned = Turned::of(rules);
     [
         turned.of_log(log),
@@ -264,6 +267,8 @@ fn of_engine<R: Arming>(rules: &R, log: &[u8]) -> Vec<String> {
         preconditions::of_log(rules, log),
         preconditions::of_steps(rules, log),
         entries::of_log(rules, log),
+        counts::of_log(rules, log),
+        counts::of_steps(rules, log),
     ]
     .concat()
 }

@@ -1,7 +1,9 @@
 //! The frames of `condition_cases`: one expression with the values lent to it. See CASES.md.
 
+use crate::framing::counted_lines::with_count;
 use crate::framing::pages;
-use crate::implementation::expr::{self, Counts, Lent};
+use crate::implementation::expr::{self, Counted, Counts, Lent};
+use crate::implementation::refusal::Refusal;
 
 #[derive(Clone, Copy, Debug, PartialEq, Eq)]
 pub enum Kind {
@@ -61,9 +63,9 @@ impl Frame {
     pub fn answer(&self) -> String {
         let (bytes, lent) = (&self.expression, self.lent());
         match self.kind {
-            Kind::Condition => or_refusal(expr::evaluate_condition(bytes, &lent)),
-            Kind::Value => or_refusal(expr::evaluate_value(bytes, &lent)),
-            Kind::Action => or_refusal(expr::evaluate_action(bytes, &lent).map(done)),
+            Kind::Condition => counted(expr::evaluate_condition(bytes, &lent), |c| c.to_string()),
+            Kind::Value => counted(expr::evaluate_value(bytes, &lent), |v| v.to_string()),
+            Kind::Action => counted(expr::evaluate_action(bytes, &lent), |m| done(&m)),
             Kind::JudgeCondition => judge_condition(bytes, lent.counts()),
             Kind::JudgeAction => judge_action(bytes, lent.counts()),
         }
@@ -77,14 +79,15 @@ fn write_words(words: &[i32], out: &mut Vec<u8>) {
     }
 }
 
-fn or_refusal<T: ToString>(answer: Result<T, crate::implementation::refusal::Refusal>) -> String {
+/// The answer, or the refusal, and the count.
+fn counted<T>(answer: Result<Counted<T>, Refusal>, text: fn(T) -> String) -> String {
     match answer {
-        Ok(value) => value.to_string(),
-        Err(refusal) => refusal.to_string(),
+        Ok(Counted { result, count }) => with_count(&text(result), count),
+        Err(refusal) => with_count(&refusal.to_string(), 0),
     }
 }
 
-fn done(monitor: Vec<i32>) -> String {
+fn done(monitor: &[i32]) -> String {
     let mut line = String::from("done");
     for value in monitor {
         line.push_str(&format!(" {value}"));

@@ -3,6 +3,7 @@
 pub mod bench_frames;
 pub mod case_files;
 pub mod condition_frames;
+pub mod counted_lines;
 pub mod dump;
 pub mod monitor_frames;
 pub mod network_frames;

@@ -1,6 +1,7 @@
 //! The proved library, `crates/embed`, by way of its static library: the functions of
 //! `embed/watch.h` on slices. A Rust slice and a `&mut` are all that those ask of a caller.
 
+use crate::implementation::expr::Counted;
 use crate::implementation::network::Version;
 use crate::implementation::run::Outcome;
 
@@ -15,6 +16,7 @@ mod c {
             second: *mut u32,
             third: *mut u32,
             fourth: *mut u32,
+            count: *mut u64,
         ) -> u32;
         pub fn watch_run_network(
             network: *const u8,
@@ -25,6 +27,7 @@ mod c {
             second: *mut u32,
             third: *mut u32,
             fourth: *mut u32,
+            count: *mut u64,
         ) -> u32;
         pub fn watch_translate(
             sheet: *const u8,
@@ -49,15 +52,17 @@ mod c {
     }
 }
 
-/// What a run answers: 0 clean, 1 violated, 2 refused, 3 an event refused; and its numbers.
+/// What a run answers: 0 clean, 1 violated, 2 refused, 3 an event refused; its numbers; and its count.
 #[derive(Clone, Copy, Debug, PartialEq, Eq)]
 pub struct Answer {
     pub code: u32,
     pub numbers: [u32; 4],
+    pub count: u64,
 }
 
 /// What stands in a place that is to be written, so that one that is not shows.
 const UNWRITTEN: u32 = 0xA5A5_A5A5;
+const UNCOUNTED: u64 = 0xA5A5_A5A5_A5A5_A5A5;
 
 type Run = unsafe extern "C" fn(
     *const u8,
@@ -68,15 +73,24 @@ type Run = unsafe extern "C" fn(
     *mut u32,
     *mut u32,
     *mut u32,
+    *mut u64,
 ) -> u32;
 
 fn answer(run: Run, rules: &[u8], log: &[u8]) -> Answer {
-    let mut numbers = [UNWRITTEN; 4];
+    let (mut numbers, mut count) = ([UNWRITTEN; 4], UNCOUNTED);
     let [first, second, third, fourth] = &mut numbers;
-    let (r, l) = (rules.as_ptr(), log.as_ptr());
-    // SAFETY: the slices and the four places are good, and are lent to nobody else.
-    let code = unsafe { run(r, rules.len(), l, log.len(), first, second, third, fourth) };
-    Answer { code, numbers }
+    let (r, r_length, l, l_length) = (rules.as_ptr(), rules.len(), log.as_ptr(), log.len());
+    // SAFETY: the slices and the five places are good, and are lent to nobody else.
+    let code = unsafe {
+        run(
+            r, r_length, l, l_length, first, second, third, fourth, &mut count,
+        )
+    };
+    Answer {
+        code,
+        numbers,
+        count,
+    }
 }
 
 pub fn run(sheet: &[u8], log: &[u8]) -> Answer {
@@ -112,9 +126,9 @@ pub fn lines(input: &[u8], out: &mut [u8]) -> usize {
 }
 
 /// The reference's answer, in the same numbers.
-pub fn numbered(outcome: Outcome) -> Answer {
+pub fn numbered(run: Counted<Outcome>) -> Answer {
     let or_none = |number: Option<u8>| number.map_or(256, u32::from);
-    let (code, numbers) = match outcome {
+    let (code, numbers) = match run.result {
         Outcome::Clean {
             events,
             state,
@@ -128,5 +142,9 @@ pub fn numbered(outcome: Outcome) -> Answer {
         Outcome::Refused(refusal) => (2, [refusal.number().into(), 0, 0, 0]),
         Outcome::RefusedAt(refusal, record) => (3, [refusal.number().into(), record, 0, 0]),
     };
-    Answer { code, numbers }
+    Answer {
+        code,
+        numbers,
+        count: run.count,
+    }
 }

@@ -2,8 +2,10 @@
 //! and a state, offers single events and runs logs. See CASES.md.
 
 use crate::framing::condition_frames::take;
+use crate::framing::counted_lines::with_count;
 use crate::framing::pages;
 use crate::implementation::engine::{fresh_state, offer, Engine};
+use crate::implementation::expr::Counted;
 use crate::implementation::machine::MOST_PROGRAM;
 use crate::implementation::run::{found, run_bytes, Record};
 use crate::implementation::state::{Cause, Common, Verdict};
@@ -269,7 +271,7 @@ impl<R: Rules> Bench<R> {
             Frame::Save => self.saved = self.state.clone(),
             Frame::Restore => self.state = self.saved.clone(),
             Frame::Offer { event, keep } => return Some(self.offer(event, *keep)),
-            Frame::Run(log) => return Some(run_bytes::<R>(&self.rules, log).to_string()),
+            Frame::Run(log) => return Some(self.run(log)),
             Frame::EntryValues(place) => return self.entry_values(*place),
         }
         None
@@ -288,15 +290,20 @@ impl<R: Rules> Bench<R> {
 
     fn offer(&mut self, event: &Record, keep: bool) -> String {
         let (answer, back) = match offer::<R>(&self.rules, &self.state, &event.event()) {
-            Ok(next) => ("taken".into(), next),
-            // A refused event changes nothing.
-            Err(refusal) => (refusal.to_string(), self.state.clone()),
+            Ok(next) => (with_count("taken", next.count), next.result),
+            // A refused event changes nothing, and counts 0.
+            Err(refusal) => (with_count(&refusal.to_string(), 0), self.state.clone()),
         };
         let line = answer + &state_text::<R>(&back);
         if keep {
             self.state = back;
         }
         line
+    }
+
+    fn run(&self, log: &[u8]) -> String {
+        let Counted { result, count } = run_bytes::<R>(&self.rules, log);
+        with_count(&result.to_string(), count)
     }
 
     fn entry_values(&self, place: u8) -> Option<String> {

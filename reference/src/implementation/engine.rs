@@ -1,8 +1,9 @@
-//! One event, on a sheet and on a network.
+//! One event, on a sheet and on a network. Its count (document 02, slip 3) is that of the conditions tried, of the
+//! values assigned and of the pre- and postconditions judged.
 
-use crate::implementation::expr::Lent;
+use crate::implementation::expr::{Counted, Lent};
 use crate::implementation::machine::{Header, Kind, Machine, Transition};
-use crate::implementation::network::Network;
+use crate::implementation::network::{Network, Pair};
 use crate::implementation::refusal::Refusal;
 use crate::implementation::sheet::Sheet;
 use crate::implementation::state::{
@@ -28,16 +29,27 @@ pub trait Engine: Sized {
     fn machine(&self) -> &Machine;
     fn fresh(&self) -> Self::State;
     fn is_sound(&self, state: &Self::State) -> bool;
-    /// The state after the event, or the lowest of refusals 10-15, for a state that is sound.
-    fn take(&self, state: &Self::State, event: &Event) -> Result<Self::State, Refusal>;
+    /// The state after the event with its count, or the lowest of refusals 10-15, for a state that is
+    /// sound.
+    fn take(&self, state: &Self::State, event: &Event) -> Result<Counted<Self::State>, Refusal>;
     fn common(state: &Self::State) -> &Common;
 
-    /// The state after the event, or the lowest of refusals 9-15; then the state stays as it was.
-    fn event(&self, state: &Self::State, event: &Event) -> Result<Self::State, Refusal> {
+    /// The state after the event with its count, or the lowest of refusals 9-15; then the state stays as it
+    /// was, and the count is 0.
+    fn counted_event(
+        &self,
+        state: &Self::State,
+        event: &Event,
+    ) -> Result<Counted<Self::State>, Refusal> {
         if !self.is_sound(state) {
             return Err(Refusal::Unsound);
         }
         self.take(state, event)
+    }
+
+    /// The same without the count.
+    fn event(&self, state: &Self::State, event: &Event) -> Result<Self::State, Refusal> {
+        Ok(self.counted_event(state, event)?.result)
     }
 }
 
@@ -127,14 +139,16 @@ impl Common {
         close_up(&mut self.calls, place)
     }
 
-    /// The action and then the new state; without a transition both stay.
-    fn finish(&mut self, taken: Option<&Transition>, event: &Event, machine: &Machine) {
-        let Some(transition) = taken else { return };
-        if let Some(action) = machine.actions.get(usize::from(transition.action)) {
-            let monitor = usize::from(machine.header.monitor).min(self.variables.len());
-            action.carry_out(event.values, &mut self.variables[..monitor], &[]);
-        }
+    /// The action and then the new state; without a transition both stay. Gives the action's count.
+    fn finish(&mut self, taken: Option<&Transition>, event: &Event, machine: &Machine) -> u64 {
+        let Some(transition) = taken else { return 0 };
+        let action = machine.actions.get(usize::from(transition.action));
+        let monitor = usize::from(machine.header.monitor).min(self.variables.len());
+        let count = action.map_or(0, |action| {
+            action.carry_out(event.values, &mut self.variables[..monitor], &[])
+        });
         self.main = transition.to;
+        count
     }
 
     /// A verdict where the new state is bad or a postcondition fails.
@@ -164,32 +178,57 @@ fn close_up<T: Copy + Default>(places: &mut [T], place: usize) -> T {
     out
 }
 
-/// Whether a transition is the one for this event: state, kind, unit, then its condition.
-fn is_enabled(t: &Transition, before: &Common, kind: Kind, event: &Event, m: &Machine) -> bool {
-    t.from == before.main
-        && t.kind == kind
-        && t.unit == event.unit
-        && holds_before(t.condition, before, event, m)
+/// An event that is taken, and what was before it.
+struct Trial<'a> {
+    machine: &'a Machine,
+    before: &'a Common,
+    event: &'a Event<'a>,
+    taken: Taken,
 }
 
-/// Whether a condition holds with the event's values and the variables as they stood before the event:
-/// a transition's, and by document 02's slip 13 a precondition and a pair's too.
-fn holds_before(condition: u8, before: &Common, event: &Event, machine: &Machine) -> bool {
-    let lent = Lent {
-        program: event.values,
-        monitor: &before.variables,
-        kept: &[],
-    };
-    machine.condition_holds(condition, &lent)
-}
+impl<'a> Trial<'a> {
+    /// Refusals 10 to 15.
+    fn of(
+        machine: &'a Machine,
+        before: &'a Common,
+        event: &'a Event,
+    ) -> Result<Trial<'a>, Refusal> {
+        let taken = admit(before, event, &machine.header)?;
+        Ok(Trial {
+            machine,
+            before,
+            event,
+            taken,
+        })
+    }
 
-fn postcondition_holds(condition: u8, event: &Event, call: &Call, machine: &Machine) -> bool {
-    let lent = Lent {
-        program: event.values,
-        monitor: &[],
-        kept: &call.kept,
-    };
-    machine.condition_holds(condition, &lent)
+    /// Whether a transition is the one for this event. Its condition is tried, and counts, only where it is of
+    /// this state, kind and unit.
+    fn takes(&self, t: &Transition, count: &mut u64) -> bool {
+        (t.from, t.kind, t.unit) == (self.before.main, self.taken.kind(), self.event.unit)
+            && self.holds_before(t.condition, count)
+    }
+
+    /// Whether a condition holds with the event's values and the variables as they stood before the event:
+    /// a transition's, and by document 02's slip 13 a precondition and a pair's too.
+    fn holds_before(&self, condition: u8, count: &mut u64) -> bool {
+        let lent = Lent {
+            program: self.event.values,
+            monitor: &self.before.variables,
+            kept: &[],
+        };
+        self.machine.evaluate_condition(condition, &lent, count)
+    }
+
+    /// Whether a postcondition holds at the exit of the call.
+    fn holds_after(&self, condition: u8, call: &Call, count: &mut u64) -> bool {
+        let lent = Lent {
+            program: self.event.values,
+            monitor: &[],
+            kept: &call.kept,
+        };
+        self.machine.evaluate_condition(condition, &lent, count)
+    }
 }
 
 // ---- Sheets -----------------------------------------------------------------------------------
@@ -216,24 +255,24 @@ impl Engine for Sheet {
         state.is_sound(self)
     }
 
-    fn take(&self, state: &SheetState, event: &Event) -> Result<SheetState, Refusal> {
-        let header = &self.machine.header;
-        let taken = admit(&state.common, event, header)?;
-        let mut next = state.clone();
-        next.common.position += 1;
-        let failing = match taken {
-            Taken::Entry => {
-                self.arm(&state.common, &mut next, event);
-                None
-            }
-            Taken::Exit(place) => self.disarm(&mut next, place, event),
-        };
-        let fits =
-            |t: &&Transition| is_enabled(t, &state.common, taken.kind(), event, &self.machine);
-        let transition = self.transitions.iter().find(fits);
-        next.common.finish(transition, event, &self.machine);
-        next.common.judge(header, failing);
-        Ok(next)
+    fn take(&self, state: &SheetState, event: &Event) -> Result<Counted<SheetState>, Refusal> {
+        let trial = Trial::of(&self.machine, &state.common, event)?;
+        Ok(Counted::of(|count| {
+            let mut next = state.clone();
+            next.common.position += 1;
+            let failing = match trial.taken {
+                Taken::Entry => {
+                    self.arm(&trial, &mut next, count);
+                    None
+                }
+                Taken::Exit(place) => self.disarm(&trial, &mut next, place, count),
+            };
+            let mut transitions = self.transitions.iter();
+            let transition = transitions.find(|t| trial.takes(t, count));
+            *count += next.common.finish(transition, event, &self.machine);
+            next.common.judge(&self.machine.header, failing);
+            next
+        }))
     }
 
     fn common(state: &SheetState) -> &Common {
@@ -243,31 +282,36 @@ impl Engine for Sheet {
 
 impl Sheet {
     /// Opens the call, with the triples of the state before the event whose preconditions hold.
-    fn arm(&self, before: &Common, next: &mut SheetState, event: &Event) {
+    fn arm(&self, trial: &Trial, next: &mut SheetState, count: &mut u64) {
         let mut armed = Armed::default();
-        for number in self.triples_of(before.main, event.unit) {
+        for number in self.triples_of(trial.before.main, trial.event.unit) {
             let precondition = self.triples[usize::from(number)].precondition;
-            let holds = holds_before(precondition, before, event, &self.machine);
+            let holds = trial.holds_before(precondition, count);
             let free = armed.triples.get_mut(usize::from(armed.count));
             if let (true, Some(free)) = (holds, free) {
                 *free = number;
                 armed.count += 1;
             }
         }
-        let place = next.common.enter(event);
+        let place = next.common.enter(trial.event);
         if let Some(free) = next.armed.get_mut(place) {
             *free = armed;
         }
     }
 
-    /// Closes the call and gives the lowest armed triple whose postcondition fails.
-    fn disarm(&self, next: &mut SheetState, place: usize, event: &Event) -> Option<Failing> {
+    /// Closes the call and gives the lowest armed triple whose postcondition fails. All are judged.
+    fn disarm(
+        &self,
+        trial: &Trial,
+        next: &mut SheetState,
+        place: usize,
+        count: &mut u64,
+    ) -> Option<Failing> {
         let call = next.common.leave(place);
         let armed = close_up(&mut next.armed, place);
         let fails = |number: &&u8| {
             let triple = self.triples.get(usize::from(**number));
-            let holds = |post| postcondition_holds(post, event, &call, &self.machine);
-            triple.is_some_and(|t| !holds(t.postcondition))
+            triple.is_some_and(|t| !trial.holds_after(t.postcondition, &call, count))
         };
         let lowest = armed.numbers().iter().filter(fails).min();
         lowest.map(|triple| Failing {
@@ -301,40 +345,27 @@ impl Engine for Network {
         state.is_sound(self)
     }
 
-    fn take(&self, state: &NetworkState, event: &Event) -> Result<NetworkState, Refusal> {
-        let header = &self.machine.header;
-        let taken = admit(&state.common, event, header)?;
-        let mut next = state.clone();
-        next.common.position += 1;
-        let failing = match taken {
-            Taken::Entry => {
-                next.common.enter(event);
-                None
-            }
-            Taken::Exit(place) => self.end_checkers(&mut next, place, event),
-        };
-        let creating = self.transitions.iter().find(|c| {
-            is_enabled(
-                &c.transition,
-                &state.common,
-                taken.kind(),
-                event,
-                &self.machine,
-            )
-        });
-        for pair in creating.iter().flat_map(|c| &c.pairs) {
-            if holds_before(pair.condition, &state.common, event, &self.machine) {
-                next.create(Checker {
-                    call: event.call,
-                    template: pair.template,
-                    entry: next.common.position,
-                });
-            }
-        }
-        let transition = creating.map(|c| &c.transition);
-        next.common.finish(transition, event, &self.machine);
-        next.common.judge(header, failing);
-        Ok(next)
+    fn take(&self, state: &NetworkState, event: &Event) -> Result<Counted<NetworkState>, Refusal> {
+        let trial = Trial::of(&self.machine, &state.common, event)?;
+        Ok(Counted::of(|count| {
+            let mut next = state.clone();
+            next.common.position += 1;
+            let failing = match trial.taken {
+                Taken::Entry => {
+                    next.common.enter(event);
+                    None
+                }
+                Taken::Exit(place) => self.end_checkers(&trial, &mut next, place, count),
+            };
+            let mut transitions = self.transitions.iter();
+            let creating = transitions.find(|c| trial.takes(&c.transition, count));
+            let pairs = creating.map_or(&[][..], |c| &c.pairs);
+            next.create_all(&trial, pairs, count);
+            let transition = creating.map(|c| &c.transition);
+            *count += next.common.finish(transition, event, &self.machine);
+            next.common.judge(&self.machine.header, failing);
+            next
+        }))
     }
 
     fn common(state: &NetworkState) -> &Common {
@@ -343,23 +374,23 @@ impl Engine for Network {
 }
 
 impl Network {
-    /// Closes the call, ends its checkers and gives the lowest template that fails.
+    /// Closes the call, ends its checkers and gives the lowest template that fails. All are judged.
     fn end_checkers(
         &self,
+        trial: &Trial,
         next: &mut NetworkState,
         place: usize,
-        event: &Event,
+        count: &mut u64,
     ) -> Option<Failing> {
         let call = next.common.leave(place);
         let (ending, staying): (Vec<Checker>, Vec<Checker>) = next
             .living_checkers()
             .iter()
-            .partition(|c| c.call == event.call);
+            .partition(|c| c.call == call.number);
         next.set_checkers(&staying);
         let fails = |checker: &&Checker| {
             let template = self.templates.get(usize::from(checker.template));
-            let holds = |post| postcondition_holds(post, event, &call, &self.machine);
-            template.is_some_and(|t| !holds(t.postcondition))
+            template.is_some_and(|t| !trial.holds_after(t.postcondition, &call, count))
         };
         let lowest = ending.iter().filter(fails).min_by_key(|c| c.template);
         lowest.map(|checker| Failing {
@@ -370,6 +401,19 @@ impl Network {
 }
 
 impl NetworkState {
+    /// A checker for each pair of the transition that is taken whose condition holds.
+    fn create_all(&mut self, trial: &Trial, pairs: &[Pair], count: &mut u64) {
+        for pair in pairs {
+            if trial.holds_before(pair.condition, count) {
+                self.create(Checker {
+                    call: trial.event.call,
+                    template: pair.template,
+                    entry: self.common.position,
+                });
+            }
+        }
+    }
+
     /// The call is the last one opened, so the checkers stay in their calls' order.
     fn create(&mut self, checker: Checker) {
         if let Some(free) = self.checkers.get_mut(usize::from(self.living)) {
@@ -402,8 +446,8 @@ pub fn offer<E: Engine>(
     bytes: &[u8],
     state: &E::State,
     event: &Event,
-) -> Result<E::State, Refusal> {
-    E::read(bytes)?.event(state, event)
+) -> Result<Counted<E::State>, Refusal> {
+    E::read(bytes)?.counted_event(state, event)
 }
 
 pub fn fresh_sheet_state(sheet: &[u8]) -> (SheetState, Option<Refusal>) {
@@ -415,7 +459,11 @@ pub fn fresh_network_state(network: &[u8]) -> (NetworkState, Option<Refusal>) {
 }
 
 /// One event on a sheet's bytes: refusals 1-15.
-pub fn sheet_event(sheet: &[u8], state: &SheetState, event: &Event) -> Result<SheetState, Refusal> {
+pub fn sheet_event(
+    sheet: &[u8],
+    state: &SheetState,
+    event: &Event,
+) -> Result<Counted<SheetState>, Refusal> {
     offer::<Sheet>(sheet, state, event)
 }
 
@@ -424,6 +472,6 @@ pub fn network_event(
     network: &[u8],
     state: &NetworkState,
     event: &Event,
-) -> Result<NetworkState, Refusal> {
+) -> Result<Counted<NetworkState>, Refusal> {
     offer::<Network>(network, state, event)
 }

@@ -1,4 +1,5 @@
-//! Conditions, values and actions as trees: read from bytes, written back, evaluated.
+//! Conditions, values and actions as trees: read from bytes, written back, evaluated. An evaluation counts the
+//! operators and operands that it reaches (document 02, slip 3).
 
 use crate::implementation::refusal::Refusal;
 
@@ -84,16 +85,46 @@ impl Holds {
 
 // ---- Evaluating -------------------------------------------------------------------------------
 
+/// What comes of something, and how many operators and operands were evaluated for it.
+#[derive(Clone, Copy, Debug, PartialEq, Eq)]
+pub struct Counted<T> {
+    pub result: T,
+    pub count: u64,
+}
+
+impl<T> Counted<T> {
+    /// Of what counts along.
+    pub fn of(counting: impl FnOnce(&mut u64) -> T) -> Counted<T> {
+        let mut count = 0;
+        let result = counting(&mut count);
+        Counted { result, count }
+    }
+}
+
 impl Condition {
     pub fn holds(&self, lent: &Lent) -> bool {
+        self.counted(lent).result
+    }
+
+    pub fn counted(&self, lent: &Lent) -> Counted<bool> {
+        Counted::of(|count| self.evaluate(lent, count))
+    }
+
+    /// Whether it holds. Each operator and operand adds 1 to the count when it is reached: the right side
+    /// of `and` is only where the left is true, that of `or` only where the left is false.
+    pub fn evaluate(&self, lent: &Lent, count: &mut u64) -> bool {
+        *count += 1;
         match self {
             Condition::True => true,
-            Condition::Not(c) => !c.holds(lent),
-            Condition::And(c, d) => c.holds(lent) && d.holds(lent),
-            Condition::Or(c, d) => c.holds(lent) || d.holds(lent),
-            Condition::Less(a, b) => a.of(lent) < b.of(lent),
-            Condition::Equal(a, b) => a.of(lent) == b.of(lent),
-            Condition::Within(a, b, k) => within(a.of(lent), b.of(lent), k.of(lent)),
+            Condition::Not(c) => !c.evaluate(lent, count),
+            Condition::And(c, d) => c.evaluate(lent, count) && d.evaluate(lent, count),
+            Condition::Or(c, d) => c.evaluate(lent, count) || d.evaluate(lent, count),
+            Condition::Less(a, b) => a.evaluate(lent, count) < b.evaluate(lent, count),
+            Condition::Equal(a, b) => a.evaluate(lent, count) == b.evaluate(lent, count),
+            Condition::Within(a, b, k) => {
+                let [a, b, k] = [a, b, k].map(|value| value.evaluate(lent, count));
+                within(a, b, k)
+            }
         }
     }
 }
@@ -106,26 +137,33 @@ fn within(a: i32, b: i32, k: i32) -> bool {
 
 impl Value {
     pub fn of(&self, lent: &Lent) -> i32 {
+        self.counted(lent).result
+    }
+
+    pub fn counted(&self, lent: &Lent) -> Counted<i32> {
+        Counted::of(|count| self.evaluate(lent, count))
+    }
+
+    /// The value. Counts as a condition does; of `choose` one branch is reached.
+    pub fn evaluate(&self, lent: &Lent, count: &mut u64) -> i32 {
+        *count += 1;
         match self {
             Value::Constant(n) => *n,
             Value::Program(i) => look_up(lent.program, *i),
             Value::Monitor(i) => look_up(lent.monitor, *i),
             Value::AtEntry(i) => look_up(lent.kept, *i),
-            Value::Plus(a, b) => nearest(a.whole(lent) + b.whole(lent)),
-            Value::Minus(a, b) => nearest(a.whole(lent) - b.whole(lent)),
+            Value::Plus(a, b) => nearest(a.whole(lent, count) + b.whole(lent, count)),
+            Value::Minus(a, b) => nearest(a.whole(lent, count) - b.whole(lent, count)),
             Value::Choose(c, a, b) => {
-                if c.holds(lent) {
-                    a.of(lent)
-                } else {
-                    b.of(lent)
-                }
+                let chosen = if c.evaluate(lent, count) { a } else { b };
+                chosen.evaluate(lent, count)
             }
         }
     }
 
     /// In 64 bits, where no sum or difference of two values is out of range.
-    fn whole(&self, lent: &Lent) -> i64 {
-        self.of(lent).into()
+    fn whole(&self, lent: &Lent, count: &mut u64) -> i64 {
+        self.evaluate(lent, count).into()
     }
 }
 
@@ -140,19 +178,22 @@ fn look_up(values: &[i32], number: u8) -> i32 {
 }
 
 impl Action {
-    /// Carries out the assignments in order on `monitor`.
-    pub fn carry_out(&self, program: &[i32], monitor: &mut [i32], kept: &[i32]) {
+    /// Carries out the assignments in order on `monitor`, and gives the sum of the assigned values' counts,
+    /// each as it was evaluated.
+    pub fn carry_out(&self, program: &[i32], monitor: &mut [i32], kept: &[i32]) -> u64 {
+        let mut count = 0;
         for assignment in &self.assignments {
             let lent = Lent {
                 program,
                 monitor,
                 kept,
             };
-            let value = assignment.value.of(&lent);
+            let value = assignment.value.evaluate(&lent, &mut count);
             if let Some(place) = monitor.get_mut(usize::from(assignment.variable)) {
                 *place = value;
             }
         }
+        count
     }
 }
 
@@ -403,18 +444,22 @@ impl Action {
 
 // ---- On their own -----------------------------------------------------------------------------
 
-pub fn evaluate_condition(bytes: &[u8], lent: &Lent) -> Result<bool, Refusal> {
-    Ok(read_condition(bytes, lent.counts())?.holds(lent))
+/// What is refused, here and below, has evaluated nothing: its count is 0.
+pub fn evaluate_condition(bytes: &[u8], lent: &Lent) -> Result<Counted<bool>, Refusal> {
+    Ok(read_condition(bytes, lent.counts())?.counted(lent))
 }
 
-pub fn evaluate_value(bytes: &[u8], lent: &Lent) -> Result<i32, Refusal> {
-    Ok(read_value(bytes, lent.counts())?.of(lent))
+pub fn evaluate_value(bytes: &[u8], lent: &Lent) -> Result<Counted<i32>, Refusal> {
+    Ok(read_value(bytes, lent.counts())?.counted(lent))
 }
 
 /// The monitor values after the action; the lent ones stay as they are.
-pub fn evaluate_action(bytes: &[u8], lent: &Lent) -> Result<Vec<i32>, Refusal> {
+pub fn evaluate_action(bytes: &[u8], lent: &Lent) -> Result<Counted<Vec<i32>>, Refusal> {
     let action = read_action(bytes, lent.counts())?;
     let mut monitor = lent.monitor.to_vec();
-    action.carry_out(lent.program, &mut monitor, lent.kept);
-    Ok(monitor)
+    let count = action.carry_out(lent.program, &mut monitor, lent.kept);
+    Ok(Counted {
+        result: monitor,
+        count,
+    })
 }

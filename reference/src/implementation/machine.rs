@@ -84,8 +84,13 @@ pub struct Machine {
 
 impl Machine {
     pub fn condition_holds(&self, number: u8, lent: &Lent) -> bool {
+        self.evaluate_condition(number, lent, &mut 0)
+    }
+
+    /// Whether the condition of this number holds; what its evaluation reaches is added to the count.
+    pub fn evaluate_condition(&self, number: u8, lent: &Lent, count: &mut u64) -> bool {
         let condition = self.conditions.get(usize::from(number));
-        condition.is_some_and(|c| c.holds(lent))
+        condition.is_some_and(|c| c.evaluate(lent, count))
     }
 
     /// The version, the counts and the tables that sheets and networks share.

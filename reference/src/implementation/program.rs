@@ -19,10 +19,10 @@ pub fn outcomes(input: &[u8]) -> (Outcome, Outcome) {
     let (sheet, log) = split(input);
     let mut buffer = vec![0; BUFFER];
     let network = match translate(sheet, &mut buffer) {
-        Ok(length) => run_network(&buffer[..length], log),
+        Ok(length) => run_network(&buffer[..length], log).result,
         Err(refusal) => Outcome::Refused(refusal),
     };
-    (run_sheet(sheet, log), network)
+    (run_sheet(sheet, log).result, network)
 }
 
 /// All that the program prints for an input.

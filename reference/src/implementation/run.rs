@@ -1,6 +1,8 @@
-//! Running a log from fresh, on a sheet and on a network.
+//! Running a log from fresh, on a sheet and on a network. A run's count (document 02, slip 3) is the sum over its
+//! taken events.
 
 use crate::implementation::engine::{Engine, Event};
+use crate::implementation::expr::Counted;
 use crate::implementation::network::Network;
 use crate::implementation::refusal::Refusal;
 use crate::implementation::sheet::Sheet;
@@ -124,31 +126,56 @@ pub fn write_log(program: u8, records: &[Record]) -> Vec<u8> {
     out
 }
 
-/// Runs a log's bytes on a sheet or network that has been read.
-pub fn run<E: Engine>(engine: &E, log: &[u8]) -> Outcome {
-    match read_log(log, engine.machine().header.program) {
-        Ok(records) => run_records(engine, &records),
-        Err(refusal) => Outcome::Refused(refusal),
+/// Of what is refused as a whole: nothing has been evaluated.
+pub fn refused(refusal: Refusal) -> Counted<Outcome> {
+    Counted {
+        result: Outcome::Refused(refusal),
+        count: 0,
     }
 }
 
-pub fn run_records<E: Engine>(engine: &E, records: &[Record]) -> Outcome {
-    follow(engine, records, E::event)
+/// Runs a log's bytes on a sheet or network that has been read.
+pub fn run<E: Engine>(engine: &E, log: &[u8]) -> Counted<Outcome> {
+    match read_log(log, engine.machine().header.program) {
+        Ok(records) => run_records(engine, &records),
+        Err(refusal) => refused(refusal),
+    }
+}
+
+pub fn run_records<E: Engine>(engine: &E, records: &[Record]) -> Counted<Outcome> {
+    follow_counting(engine, records, E::counted_event)
 }
 
 /// The same without judging the state before each event: from fresh it is always sound.
-pub fn run_unjudged<E: Engine>(engine: &E, log: &[u8]) -> Outcome {
+pub fn run_unjudged<E: Engine>(engine: &E, log: &[u8]) -> Counted<Outcome> {
     match read_log(log, engine.machine().header.program) {
-        Ok(records) => follow(engine, &records, E::take),
-        Err(refusal) => Outcome::Refused(refusal),
+        Ok(records) => follow_counting(engine, &records, E::take),
+        Err(refusal) => refused(refusal),
     }
+}
+
+/// The run in which each record's event is offered in this way, with the sum of the counts of those that are
+/// taken.
+pub fn follow_counting<E: Engine>(
+    engine: &E,
+    records: &[Record],
+    offer: impl Fn(&E, &E::State, &Event) -> Result<Counted<E::State>, Refusal>,
+) -> Counted<Outcome> {
+    Counted::of(|count| {
+        let counting = |engine: &E, state: &E::State, event: &Event| {
+            let next = offer(engine, state, event)?;
+            *count += next.count;
+            Ok(next.result)
+        };
+        follow(engine, records, counting)
+    })
 }
 
 /// The run in which each record's event is offered in this way.
 pub fn follow<E: Engine>(
     engine: &E,
     records: &[Record],
-    offer: impl Fn(&E, &E::State, &Event) -> Result<E::State, Refusal>,
+    mut offer: impl FnMut(&E, &E::State, &Event) -> Result<E::State, Refusal>,
 ) -> Outcome {
     let mut state = engine.fresh();
     for (record, number) in records.iter().zip(1u32..) {
@@ -184,17 +211,17 @@ pub fn reach<E: Engine>(engine: &E, records: &[Record]) -> E::State {
 }
 
 /// Runs a log's bytes on the bytes of a sheet or network.
-pub fn run_bytes<E: Engine>(bytes: &[u8], log: &[u8]) -> Outcome {
+pub fn run_bytes<E: Engine>(bytes: &[u8], log: &[u8]) -> Counted<Outcome> {
     match E::read(bytes) {
         Ok(engine) => run(&engine, log),
-        Err(refusal) => Outcome::Refused(refusal),
+        Err(refusal) => refused(refusal),
     }
 }
 
-pub fn run_sheet(sheet: &[u8], log: &[u8]) -> Outcome {
+pub fn run_sheet(sheet: &[u8], log: &[u8]) -> Counted<Outcome> {
     run_bytes::<Sheet>(sheet, log)
 }
 
-pub fn run_network(network: &[u8], log: &[u8]) -> Outcome {
+pub fn run_network(network: &[u8], log: &[u8]) -> Counted<Outcome> {
     run_bytes::<Network>(network, log)
 }

@@ -7,6 +7,7 @@ use crate::implementation::run::{write_log, Record};
 use crate::implementation::sheet::Sheet;
 use crate::making::draft::{NetworkDraft, SheetDraft};
 use crate::making::random::Random;
+use crate::making::random_counts;
 use crate::making::random_ends;
 use crate::making::random_expr::{self, Taste};
 use crate::making::wide;
@@ -686,6 +687,8 @@ const WIDE: usize = 6;
 const ENDS: usize = 8;
 /// One of the others in this many has many rivals.
 const RIVALS: usize = 12;
+/// In one of the others in this many it counts when a variable is read.
+const COUNTS: usize = 10;
 
 /// A sheet and a log of any sort.
 pub fn run_case(random: &mut Random) -> RunCase {
@@ -697,6 +700,10 @@ pub fn run_case(random: &mut Random) -> RunCase {
     }
     if random.chance(1, RIVALS) {
         let draft = sheet_of_rivals(random);
+        return case_of(random, &draft);
+    }
+    if random.chance(1, COUNTS) {
+        let draft = random_counts::sheet(random);
         return case_of(random, &draft);
     }
     usual_case(random)

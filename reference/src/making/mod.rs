@@ -5,6 +5,7 @@ pub mod draft;
 pub mod generate;
 pub mod programs;
 pub mod random;
+pub mod random_counts;
 pub mod random_ends;
 pub mod random_expr;
 pub mod scripts;

@@ -25,9 +25,11 @@ pub const PROGRAMS: &[Program] = &[
     Program {
         name: "condition_cases",
         make: || {
-            let rows = condition_cases::all();
-            let frames = rows.iter().map(|row| &row.frame);
-            gather(frames, |f, out| f.write(out), |f| Some(f.answer()))
+            let parts = condition_cases::parts();
+            let frames = parts
+                .each_ref()
+                .map(|part| part.iter().map(|row| &row.frame));
+            paged(frames.map(|part| gather(part, |f, out| f.write(out), |f| Some(f.answer()))))
         },
     },
     Program {
@@ -105,9 +107,14 @@ fn gather<F>(
 
 /// The pages of a script, each filled but for the last.
 fn script<O: Own>(all: &[Page<O>]) -> Files {
+    let rows = all.iter().map(|page| page.iter());
+    paged(rows.map(|page| gather(page, |r, out| r.frame.write(out), |r| r.line.clone())))
+}
+
+/// One after the other, each on a page of its own.
+fn paged(parts: impl IntoIterator<Item = Files>) -> Files {
     let mut files = Files::default();
-    for page in all {
-        let part = gather(page.iter(), |r, out| r.frame.write(out), |r| r.line.clone());
+    for part in parts {
         pages::fill(&mut files.stdin);
         files.stdin.extend(part.stdin);
         files.stdout.extend(part.stdout);

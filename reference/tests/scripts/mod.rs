@@ -1,5 +1,6 @@
 //! What the tests of `monitor_cases` and `network_cases` share.
 
+use reference::framing::counted_lines::split_count;
 use reference::framing::pages::{FILLER, PAGE};
 use reference::framing::script_frames::{read_frames, read_page, Bench, Field, Frame, Own, Rules};
 use reference::implementation::run::Record;
@@ -13,17 +14,25 @@ pub fn assert_written_answers<O: Own>(pages: &[Page<O>]) {
         let (Some(expected), Some(line)) = (&row.expected, &row.line) else {
             continue;
         };
+        let (line, count) = split_count(line);
         // A run's answer and values at entry are written whole; of the others at least the front.
         let whole = matches!(row.frame, Frame::Run(_) | Frame::EntryValues(_));
         let front = !whole && line.starts_with(&format!("{expected} "));
         let place = format!("row {number}, {:?}: {:?}", row.sort, row.frame);
-        assert!(line == expected || front, "{line}, not {expected}; {place}");
+        assert!(
+            line == *expected || front,
+            "{line}, not {expected}; {place}"
+        );
+        assert_eq!(count.is_some(), is_offer(row) || is_run(row), "{place}");
+        if row.count.is_some() {
+            assert_eq!(count, row.count, "{place}");
+        }
     }
 }
 
 /// The most pages that an input has here.
-const FEW: usize = 18;
-const LONGEST_OUTPUT: usize = 3_500_000;
+const FEW: usize = 24;
+const LONGEST_OUTPUT: usize = 4_500_000;
 
 /// The files of the program are these pages and what carrying them out gives, and not too long.
 pub fn assert_files_hold<R: Rules>(name: &str, pages: &[Page<R::Own>]) {
@@ -52,8 +61,12 @@ fn lines_of_page<R: Rules>(bytes: &[u8], page: &[Row<R::Own>]) -> String {
 
 // ---- Counting ---------------------------------------------------------------------------------
 
+/// The rows whose line, without its count, is as wanted.
 pub fn count<O>(pages: &[Page<O>], wanted: impl Fn(&Row<O>, &str) -> bool) -> usize {
-    let matching = |row: &&Row<O>| row.line.as_deref().is_some_and(|line| wanted(row, line));
+    let matching = |row: &&Row<O>| {
+        let line = row.line.as_deref().map(|line| split_count(line).0);
+        line.is_some_and(|line| wanted(row, &line))
+    };
     pages.iter().flatten().filter(matching).count()
 }
 
@@ -248,7 +261,7 @@ pub fn assert_fields_show<R: Rules>(own: &[R::Own]) {
     }
     // Without a verdict there is nothing to carry.
     assert!(!line(&[Field::Main, Field::Carried]));
-    assert!(!lines.contains(&Some("refused 1".into())));
+    assert!(!lines.contains(&Some("refused 1 count 0".into())));
 }
 
 /// Some frames and their bytes: they are read back, and where they are cut they are none.

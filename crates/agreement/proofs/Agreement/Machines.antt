@@ -16,6 +16,7 @@ use Rattle.engine.specs.Machine as Machine
 use Rattle.engine.specs.Machine.{State}
 use Rattle.engine.specs.Machines.{ofSheet, ofNetwork}
 use Rattle.engine.specs.Runs as Runs
+use Rattle.engine.proofs.OnMachines.Candidates.{sheet-arming, network-arming}
 use Rattle.engine.proofs.OnMachines.Alike.{Alike, fresh-alike, offer-alike, run-alike}
 use Rattle.monitor.specs.Monitor as Monitor
 use Rattle.monitor.specs.Monitor.{arms, armedBy}
@@ -31,12 +32,12 @@ use Rattle.agreement.specs.Realises.{Realises}
 
 module _ {S : Sheet} {N : Network} (r : Realises S N) where
   -- the templates of the checkers created are the triples armed
-  arms-same : (k : Configuration) (e : Event) → isEntry e ≡ true → k .main < S .common .states → e .unit < S .common .units → ofNetwork N .arming k e ≡ ofSheet S .arming k e
-  unfolding created ofNetwork ofSheet armedBy arms
+  arms-same : (k : Configuration) (e : Event) → isEntry e ≡ true → k .main < S .common .states → e .unit < S .common .units → Machine.arming (ofNetwork N) k e ≡ Machine.arming (ofSheet S) k e
+  unfolding created armedBy arms
   arms-same k e y main unit =
       let template : Checker → ℕ = λ h. h .template in
       let pairs = keep (λ (p : Pair). meets (N .common) (p .condition) (seen e k)) (pairsIn (first (λ (t : Paired). enabled (N .common) k e (t .base)) (N .transitions))) in
-      sym (map-map template (λ (p : Pair). checker (e .number) 0 (p .template)) pairs) ∙ ap (map template) (r .creates k 0 e y main unit) ∙ map-map template (checker (e .number) 0) (armedBy S k e) ∙ map-id (armedBy S k e)
+      network-arming N k e ∙ sym (map-map template (λ (p : Pair). checker (e .number) 0 (p .template)) pairs) ∙ ap (map template) (r .creates k 0 e y main unit) ∙ map-map template (checker (e .number) 0) (armedBy S k e) ∙ map-id (armedBy S k e) ∙ sym (sheet-arming S k e)
 
   alike : Alike (ofNetwork N) (ofSheet S)
   unfolding ofNetwork ofSheet

@@ -13,11 +13,11 @@ value-requires c κs = walkable (c .before .before .before .before .before .befo
 
 returns-2 : tie.Need-returns-2
 unfolding banks
-returns-2 c = value-answer _ _ (c .before .before .before .before .if1 .taken) _ _ (c .before .value .ensures) (c .if2 .taken)
+returns-2 c = value-answer _ _ (c .before .before .before .before .if1 .taken) _ _ _ (c .before .value .ensures) (c .if2 .taken)
 
 returns-3 : tie.Need-returns-3
 unfolding banks
-returns-3 c = value-malformed _ _ (c .before .before .before .before .if1 .taken) _ _ (c .before .value .ensures) (c .if2 .left)
+returns-3 c = value-malformed _ _ (c .before .before .before .before .if1 .taken) _ _ _ (c .before .value .ensures) (c .if2 .left)
 
 pub evaluate-value-spec : {M : Type 1} → statement M
-evaluate-value-spec = tie.close (tie.spec returns value-requires (λ c. search needs) returns-2 returns-3)
+evaluate-value-spec = tie.close (tie.spec returns value-requires (λ c. search needs) (λ c. search needs) returns-2 returns-3)

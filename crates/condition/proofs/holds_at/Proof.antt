@@ -1,18 +1,20 @@
 -- `holds_at` meets its contract. Assumes nothing.
-use Rattle.condition.specs.Walk.{banks}
-use Rattle.condition.proofs.Answering.{placed-walkable, place-none, place-answer}
+use Prim.Native.Nat.{_/_, _<_}
+use native.Mathlib.Omega.{arith}
+use borrow.Author.Needs.{needs}
+use Rattle.condition.specs.Meaning.{environment}
+use Rattle.condition.proofs.Counting.{from-few}
 use Rattle.condition.proofs.holds_at.Statement.{statement}
 use Rattle.condition.proofs.holds_at.Tie as tie
 
+cast : tie.Need-cast-t11
+cast c =
+    let a = c .before .before .before .before .before .args in
+    let small : c .found-at .result / 2 / 65536 < 4294967296 = omega (arith, c .found-at .ensures .1, from-few (a .s .now) (a .at) (environment (a .program .now) (a .monitor .now) (a .kept .now))) in
+    search (needs, small)
+
 returns : tie.Need-returns
-returns c = place-none _ _ _ (c .if1 .left)
-
-condition-requires : tie.Need-condition-requires
-condition-requires c κs = placed-walkable (c .before .before .before .before .before .before .before .args .t1 .now) (c .before .before .before .before .before .before .before .args .at) (c .before .before .if1 .taken)
-
-returns-2 : tie.Need-returns-2
-unfolding banks
-returns-2 c = place-answer _ _ _ (c .before .before .before .if1 .taken) _ _ (c .condition .ensures)
+returns c = c .found-at .ensures
 
 pub holds-at-spec : {M : Type 1} → statement M
-holds-at-spec = tie.close (tie.spec returns condition-requires returns-2)
+holds-at-spec = tie.close (tie.spec (λ c κs. search needs) cast returns)

@@ -11,7 +11,8 @@ use lib.Dec.{ltb}
 use lib.ListN.{length, getD, drop}
 use Rattle.sheet.specs.Table.{every}
 use Rattle.sheet.proofs.Tables.{and-both}
-use Rattle.step.specs.Lists.{Among, first, keep, numbers}
+use Rattle.step.specs.Lists.{Among, first, keep, upTo, total, numbers}
+use Rattle.step.proofs.OnLists.Sums.{total-map, total-same, upTo-map, upTo-same, upTo-among}
 
 -- a number and the record that it is of, both found or neither
 abbrev pub Both : {A : Type 0} → A → List A → Option ℕ → Option A → Type 0
@@ -83,6 +84,36 @@ module _ {A : Type 0} (d : A) (l : List A) (p : A → Bool) where
 
   pub numbers-there : (n : ℕ) → Among n (numbers p 0 l) → (n < length l) × (p (getD l n d) ≡ true)
   numbers-there = there-from 0 l refl
+
+  records-from : (i : ℕ) (m : List A) → drop i l ≡ m → map (λ n. getD l n d) (numbers p i m) ≡ keep p m
+  unfolding numbers keep
+  records-from i [] e = refl
+  records-from i (x ∷ m) e =
+      let (u, v, w) = head-at d l i x m e in
+      go (p x) v (records-from (suc i) m w)
+    where
+      go : (b : Bool) → getD l i d ≡ x → map (λ n. getD l n d) (numbers p (suc i) m) ≡ keep p m → map (λ n. getD l n d) (cond b (i ∷ numbers p (suc i) m) (numbers p (suc i) m)) ≡ cond b (x ∷ keep p m) (keep p m)
+      go true v r = ap₂ (λ (y : A) (k : List A). y ∷ k) v r
+      go false v r = r
+
+  pub numbers-records : map (λ n. getD l n d) (numbers p 0 l) ≡ keep p l
+  numbers-records = records-from 0 l refl
+
+-- A sum over the numbers is one over the records, over all of them and up to the first that passes a test.
+module _ {A : Type 0} (d : A) (l : List A) (κ : A → Bool) (f : ℕ → ℕ) (f′ : A → ℕ) (alike : (i : ℕ) → i < length l → f i ≡ f′ (getD l i d)) where
+  abbrev record-at : ℕ → A
+  record-at n = getD l n d
+
+  pub total-numbered : total f (numbers κ 0 l) ≡ total f′ (keep κ l)
+  total-numbered = total-same f (λ n. f′ (record-at n)) (numbers κ 0 l) (λ n m. alike n (numbers-there d l κ n m .0)) ∙ sym (total-map record-at f′ (numbers κ 0 l)) ∙ ap (total f′) (numbers-records d l κ)
+
+  pub total-tried : (h : A → Bool) (g : ℕ → Bool) → ((i : ℕ) → i < length l → g i ≡ h (getD l i d)) → total f (upTo g (numbers κ 0 l)) ≡ total f′ (upTo h (keep κ l))
+  total-tried h g same =
+      let ns = numbers κ 0 l in
+      total-same f (λ n. f′ (record-at n)) (upTo g ns) (λ n m. alike n (numbers-there d l κ n (upTo-among g ns n m) .0))
+      ∙ sym (total-map record-at f′ (upTo g ns))
+      ∙ ap (λ (k : List ℕ). total f′ (map record-at k)) (upTo-same g (λ n. h (record-at n)) ns (λ n m. same n (numbers-there d l κ n m .0)))
+      ∙ ap (total f′) (sym (upTo-map record-at h ns) ∙ ap (upTo h) (numbers-records d l κ))
 
 pub numbers-same : {A : Type 0} (d : A) (p q : A → Bool) (i : ℕ) (l : List A) → ((j : ℕ) → j < length l → p (getD l j d) ≡ q (getD l j d)) → numbers p i l ≡ numbers q i l
 unfolding numbers

@@ -14,7 +14,7 @@ use Rattle.step.specs.Verdicts.{verdict}
 use Rattle.step.specs.Runs.{Offered, Ran, offered, unlessJudged, unlessRefusedAt, runFrom}
 use Rattle.step.proofs.OnLists.Keeping.{keep-same}
 use Rattle.step.proofs.OnEvents.Refusing.{free}
-use Rattle.engine.specs.Machine.{Machine, Armed, State, fresh, fails, failing, ofNumber, entered, exited, refusal, offer, run}
+use Rattle.engine.specs.Machine.{Machine, Armed, State, arming, fresh, fails, failing, ofNumber, entered, exited, refusal, offer, run}
 
 -- The same start, moves and judging; the same numbers armed at an entry, in a state and for a unit that are declared: an exit arms none, whatever `arming` says.
 pub record Alike (M N : Machine) : Type 0 where
@@ -24,7 +24,7 @@ pub record Alike (M N : Machine) : Type 0 where
   pub start : M .common .start ≡ N .common .start
   pub initial : M .common .initial ≡ N .common .initial
   pub moves : (k : Configuration) (e : Event) → moved (M .common) (M .transitions) k e ≡ moved (N .common) (N .transitions) k e
-  pub arms : (k : Configuration) (e : Event) → isEntry e ≡ true → k .main < N .common .states → e .unit < N .common .units → M .arming k e ≡ N .arming k e
+  pub arms : (k : Configuration) (e : Event) → isEntry e ≡ true → k .main < N .common .states → e .unit < N .common .units → arming M k e ≡ arming N k e
   pub judges : (i : ℕ) (E : Environment) → meets (M .common) (M .postcondition i) E ≡ meets (N .common) (N .postcondition i) E
 
 module _ {M N : Machine} (a : Alike M N) where
@@ -45,7 +45,7 @@ module _ {M N : Machine} (a : Alike M N) where
     failing-alike none = refl
     failing-alike (some b) = ap least (keep-same (fails M k e (b .call)) (fails N k e (b .call)) (b .armed) (λ i m. ap not (a .judges i (environment (e .values) (k .variables) (b .call .kept)))))
 
-    entered-alike : M .arming (σ .configuration) e ≡ N .arming (σ .configuration) e → entered M σ e ≡ entered N σ e
+    entered-alike : arming M (σ .configuration) e ≡ arming N (σ .configuration) e → entered M σ e ≡ entered N σ e
     unfolding entered
     entered-alike arms =
         let to = a .moves k e in

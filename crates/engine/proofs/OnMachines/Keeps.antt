@@ -19,7 +19,7 @@ use Rattle.step.proofs.OnLists.Keeping.{every-keep, length-keep, distinct-keep,
 use Rattle.step.proofs.OnEvents.Moving.{moved-variables}
 use Rattle.step.proofs.OnEvents.Refusing as Refusing
 use Rattle.step.proofs.OnEvents.Refusing.{entry-room}
-use Rattle.engine.specs.Machine.{Machine, Armed, State, ofNumber, fresh, entered, exited, refusal, offer}
+use Rattle.engine.specs.Machine.{Machine, Armed, State, arming, ofNumber, fresh, entered, exited, refusal, offer}
 use Rattle.engine.specs.Showing.{Steady, Carries}
 
 pub fresh-steady : (M : Machine) (last : ℕ) → M .common .start < M .common .states → length (M .common .initial) ≡ M .common .monitors → Steady (M .common) last (fresh M)
@@ -48,7 +48,7 @@ module _ (M : Machine) (last : ℕ) (s p : List ℕ) (c : Carries M last s p) (�
     entered-steady : Steady (M .common) last (entered M σ e)
     unfolding entered every
     entered-steady =
-        let new : Armed = record { call = record { number = e .number; unit = e .unit; entry = σ .position + 1; kept = e .values }; armed = M .arming (σ .configuration) e } in
+        let new : Armed = record { call = record { number = e .number; unit = e .unit; entry = σ .position + 1; kept = e .values }; armed = arming M (σ .configuration) e } in
         let shut : any (λ (d : Call). eqb (d .number) (e .number)) (map (λ (a : Armed). a .call) (σ .calls)) ≡ false = rw y at (free .notOpen) in
         let room = entry-room free (eqb-true (e .kind) 0 y) in
         let longer = length-append (σ .calls) (new ∷ []) in

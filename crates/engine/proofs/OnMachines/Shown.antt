@@ -1,7 +1,7 @@
 -- What an event comes to in words is what the definition says of the machine that the plan carries and of the state that is shown. Assumes nothing.
 use mathlib.Core.Path.{_≡_, refl, sym, ap, ap₂, _∙_}
 use mathlib.Core.Bool.{Bool, true, false, not, cond, _&&_}
-use mathlib.Core.Option.{Option, none}
+use mathlib.Core.Option.{Option, none, some}
 use mathlib.Core.List.{List, [], _∷_, _++_, map, map-map}
 use Prim.Native.Nat.{ℕ, zero, suc, _+_, _-_, _*_, _≤_, _<_}
 use native.Mathlib.Omega.{arith}
@@ -30,7 +30,7 @@ use Rattle.step.proofs.OnLists.Searching.{any-place}
 use Rattle.step.proofs.OnEvents.Entries.{entry-found}
 use Rattle.step.proofs.OnLists.Keeping.{every-among, keep-same, place-map, image-at, first-place, number-least}
 use Rattle.engine.specs.declared.Running.{Running}
-use Rattle.engine.specs.Machine.{Machine, Armed, State, fails, failing, ofNumber, entered, exited, refusal, offer}
+use Rattle.engine.specs.Machine.{Machine, Armed, State, arming, fails, failing, ofNumber, entered, exited, refusal, offer}
 use Rattle.engine.specs.Plan.{unitsIn, programsIn, monitorsIn, badIn, cellOf, firstOf, candidateOf, postOf}
 use Rattle.engine.specs.Walk.{holdsBy, foundIn, armedIn, entries, placeIn, seenIn, armedAt, keptAt, lowIn, mainAfter, variablesAfter, Words, words, entryRefusal, exitRefusal, refusalIn, runAfter, rowWith, rowWithout, enteredIn, exitedIn, takenIn, offerIn, givenOf, eightOf}
 use Rattle.engine.specs.Showing.{callOf, armedOf, heldBy, shownBy, Steady, Fits, foundBy, Carries}
@@ -139,17 +139,17 @@ module _ (M : Machine) (last : ℕ) (s p : List ℕ) (σ : Words) (e : Event) (c
     unfolding refusal
     free = Refusing.free (M .common) _ _ _ e z
 
-    fits : Fits (M .common) (heldBy (M .common) σ) e
+    pub fits : Fits (M .common) (heldBy (M .common) σ) e
     unfolding shownBy
     fits = record { main = h .main; unit = free .unit; kind = free .kind; values = free .values; variables = h .variables }
 
-    values-lent : take (programsIn p) (eightOf e) ≡ e .values
+    pub values-lent : take (programsIn p) (eightOf e) ≡ e .values
     values-lent = ap (λ (n : ℕ). take n (eightOf e)) (c .programs) ∙ take-fitted 0 8 P (e .values) (free .values) (c .fewPrograms)
 
-    variables-lent : take (monitorsIn p) (σ .variables) ≡ heldBy (M .common) σ .variables
+    pub variables-lent : take (monitorsIn p) (σ .variables) ≡ heldBy (M .common) σ .variables
     variables-lent = ap (λ (n : ℕ). take n (σ .variables)) (c .monitors)
 
-    lent-seen : seenIn p (eightOf e) (σ .variables) ≡ seen e (heldBy (M .common) σ)
+    pub lent-seen : seenIn p (eightOf e) (σ .variables) ≡ seen e (heldBy (M .common) σ)
     lent-seen = λ i. environment (values-lent i) (variables-lent i) []
 
     abbrev to : Configuration
@@ -178,7 +178,7 @@ module _ (M : Machine) (last : ℕ) (s p : List ℕ) (σ : Words) (e : Event) (c
         let key : 2 * cell + e .kind ≡ 2 * cell = omega (arith, z0) in
         let t = foundIn s p (firstOf p (2 * cell)) (seenIn p (eightOf e) (σ .variables)) in
         let found : t ≡ foundBy s p k e = (λ i. foundIn s p (firstOf p (sym key i)) (lent-seen i)) in
-        let l = M .arming k e in
+        let l = arming M k e in
         let armed : armedIn s p (candidateOf p cell t) (seenIn p (eightOf e) (σ .variables)) ≡ l = (λ i. armedIn s p (candidateOf p cell (found i)) (lent-seen i)) ∙ c .arms k e fits z0 in
         let room : 16 * suc (r .opened) ≤ length (σ .row) = omega (arith, long, rw length-map at (entry-room free z0), shown-count C σ) in
         let kept : take P (eightOf e) ≡ e .values = take-fitted 0 8 P (e .values) (free .values) (c .fewPrograms) in
@@ -202,15 +202,19 @@ module _ (M : Machine) (last : ℕ) (s p : List ℕ) (σ : Words) (e : Event) (c
         let below = ltb-true (placeOf (ofNumber (e .number)) l) (length l) (sym (any-place (ofNumber (e .number)) l) ∙ number-open z1) in
         omega (arith, below, shown-count C σ, place-shown)
 
+    -- what is kept and armed for a call
+    pub call-good : (a : Armed) → Among a (shownBy (M .common) σ .calls) → (length (a .call .kept) ≡ M .common .programs) × ((i : ℕ) → Among i (a .armed) → i < last)
+    call-good a m =
+        let l = shownBy C σ .calls in
+        let good = every-among (λ (a : Armed). every (λ i. ltb i last) (a .armed)) l a (h .there) m in
+        (simp eqb-iff at (every-among (λ (a : Armed). eqb (length (a .call .kept)) P) l a (h .kept) m), λ i n. ltb-true i last (every-among (λ i. ltb i last) (a .armed) i good n))
+
     -- what is armed for a call fails by the bytes as by the definition
     judged-armed : (a : Armed) → Among a (shownBy (M .common) σ .calls)
         → numberIn (leastOf 256 (keep (λ n. not (holdsBy s (postOf p n) (environment (e .values) (heldBy (M .common) σ .variables) (a .call .kept)))) (a .armed))) ≡ least (keep (fails M (heldBy (M .common) σ) e (a .call)) (a .armed))
     unfolding fails
     judged-armed a m =
-        let l = shownBy C σ .calls in
-        let kept : length (a .call .kept) ≡ P = simp eqb-iff at (every-among (λ (a : Armed). eqb (length (a .call .kept)) P) l a (h .kept) m) in
-        let good = every-among (λ (a : Armed). every (λ i. ltb i last) (a .armed)) l a (h .there) m in
-        let below : (i : ℕ) → Among i (a .armed) → i < last = λ i n. ltb-true i last (every-among (λ i. ltb i last) (a .armed) i good n) in
+        let (kept, below) = call-good a m in
         let by : ℕ → Bool = λ n. not (holdsBy s (postOf p n) (environment (e .values) (k .variables) (a .call .kept))) in
         let is = fails M k e (a .call) in
         ap (λ (l : List ℕ). numberIn (leastOf 256 l)) (keep-same by is (a .armed) (λ i n. ap not (c .judges i (below i n) (e .values) (k .variables) (a .call .kept) (free .values) (fits .variables) kept)))
@@ -225,23 +229,30 @@ module _ (M : Machine) (last : ℕ) (s p : List ℕ) (σ : Words) (e : Event) (c
         ∙ image-at (armedOf P) noArmed [] (entries (r .opened) (σ .row)) place (rw (length-entries (r .opened) (σ .row)) (place-open z1))
         ∙ ap (armedOf P) (entry-at (r .opened) (σ .row) place [] (place-open z1))
 
-    judged-row : e .kind ≡ 1 → numberIn (lowIn s p (σ .row) (placeIn (e .number) (σ .run .opened) (σ .row)) (take (programsIn p) (eightOf e)) (take (monitorsIn p) (σ .variables)))
-        ≡ failing M (heldBy (M .common) σ) e (first (ofNumber (e .number)) (shownBy (M .common) σ .calls))
-    unfolding lowIn armedOf
-    judged-row z1 =
+    -- the call that an exit closes, by the words at its place
+    pub call-there : e .kind ≡ 1 → (a : Armed) × (first (ofNumber (e .number)) (shownBy (M .common) σ .calls) ≡ some a) × (keptAt p (σ .row) (placeIn (e .number) (σ .run .opened) (σ .row)) ≡ a .call .kept)
+        × (armedAt (σ .row) (placeIn (e .number) (σ .run .opened) (σ .row)) ≡ a .armed)
+    unfolding armedOf
+    call-there z1 =
         let n = e .number in
         let l = shownBy C σ .calls in
         let at = placeIn n (r .opened) (σ .row) in
         let w = drop at (σ .row) in
         let a = getD l (placeOf (ofNumber n) l) noArmed in
-        let here = first-place (ofNumber n) noArmed l (number-open z1) in
         let there = words-there z1 in
         let kept : keptAt p (σ .row) at ≡ a .call .kept =
         ap (λ (j : ℕ). take j (take 8 (drop (at + 8) (σ .row)))) (c .programs) ∙ ap (λ (m : List ℕ). take P (take 8 m)) (sym (drop-drop 8 at (σ .row))) ∙ ap (take P) (sym (within 8 8 8 w refl (omega arith))) ∙ sym (ap (λ (b : Armed). b .call .kept) there) in
         let armed : armedAt (σ .row) at ≡ a .armed =
         ap₂ (λ (j : ℕ) (m : List ℕ). take j (take 4 m)) (sym (word-behind (σ .row) at 2 (omega arith))) (sym (drop-drop 3 at (σ .row))) ∙ ap (take (getD (take 16 w) 2 0)) (sym (within 3 13 4 w refl (omega arith))) ∙ sym (ap (λ (b : Armed). b .armed) there) in
+        (a, first-place (ofNumber n) noArmed l (number-open z1), kept, armed)
+
+    judged-row : e .kind ≡ 1 → numberIn (lowIn s p (σ .row) (placeIn (e .number) (σ .run .opened) (σ .row)) (take (programsIn p) (eightOf e)) (take (monitorsIn p) (σ .variables)))
+        ≡ failing M (heldBy (M .common) σ) e (first (ofNumber (e .number)) (shownBy (M .common) σ .calls))
+    unfolding lowIn
+    judged-row z1 =
+        let (a, here, kept, armed) = call-there z1 in
         let low : List ℕ → List ℕ → List ℕ → List ℕ → Option ℕ = λ values variables kept armed. numberIn (leastOf 256 (keep (λ n. not (holdsBy s (postOf p n) (environment values variables kept))) armed)) in
-        (λ i. low (values-lent i) (variables-lent i) (kept i) (armed i)) ∙ judged-armed a (first-passes (ofNumber n) l a here .0) ∙ ap (failing M k e) (sym here)
+        (λ i. low (values-lent i) (variables-lent i) (kept i) (armed i)) ∙ judged-armed a (first-passes (ofNumber (e .number)) (shownBy C σ .calls) a here .0) ∙ ap (failing M k e) (sym here)
 
     -- and the position of its entry
     entry-row : e .kind ≡ 1 → getD (σ .row) (placeIn (e .number) (σ .run .opened) (σ .row) + 7) 0 ≡ entryFor (e .number) (map (λ (a : Armed). a .call) (shownBy (M .common) σ .calls))

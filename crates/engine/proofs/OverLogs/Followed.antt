@@ -31,8 +31,9 @@ use Rattle.step.proofs.OnEvents.Following.{Engine, Works, Following, follow-ref
 use Rattle.engine.specs.declared.Running.{Running}
 use Rattle.engine.specs.declared.Given.{Given}
 use Rattle.engine.specs.declared.Advanced.{Advanced}
-use Rattle.engine.specs.Walk.{Words, words, offerIn, givenOf, eightOf}
-use Rattle.engine.specs.Runs.{offerBy, startIn, followIn, endsBy, givenAt}
+use Rattle.engine.specs.Walk.{Words, words, offerIn, eventCountIn, givenOf, eightOf}
+use Rattle.engine.specs.Runs.{offerBy, startIn, followIn, eventCountBy, followCount, endsBy, givenAt}
+use Rattle.engine.proofs.InWords.Answering.{event-few}
 
 -- The words before the first event, from the header and the words behind it.
 pub run-started : (s : List ℕ) (h : Header) → h ≡ headerOf s → record { main = h .start; opened = 0; position = 0; outcome = Open } ≡ startIn s .run
@@ -112,6 +113,8 @@ engine s p =
       offer = offerBy s p;
       verdict = λ σ. verdictIn (σ .run .outcome);
       run = followIn s p;
+      count = eventCountBy s p;
+      runCount = followCount s p;
       sound = λ σ. true;
       pad = λ σ. σ;
       view = λ σ. σ;
@@ -125,21 +128,24 @@ outcome-shown Open = refl
 outcome-shown (Judged v) = refl
 
 pub works : (s p : List ℕ) → Works (engine s p)
-unfolding followIn
+unfolding followIn followCount eventCountIn
 works s p =
     record {
       starts = refl;
       keeps = λ σ e h. refl;
       answers = λ σ e. refl;
       runs = λ es. refl;
+      counts = λ es. refl;
+      few = λ σ e. event-few s p σ (givenOf e) (eightOf e);
+      free = λ σ e n h. rw h;
       seen = λ σ h. refl;
       shows = λ σ. outcome-shown (σ .run .outcome);
       ending = λ σ. refl;
     }
 
--- What holds before each record: the run so far, how many values and how long a record and the log are, and that values read leave zeros behind them.
-pub record Held (s p : List ℕ) (P : ℕ) (log : List ℕ) (count size end : ℕ) (w : Words) (old : List ℕ) (i at : ℕ) : Type 0 where
-  pub following : Following (engine s p) P log w i at end
+-- What holds before each record: the run so far and what it counted, how many values and how long a record and the log are, and that values read leave zeros behind them.
+pub record Held (s p : List ℕ) (P : ℕ) (log : List ℕ) (count size end : ℕ) (w : Words) (old : List ℕ) (i sum at : ℕ) : Type 0 where
+  pub following : Following (engine s p) P log w i sum at end
   pub many : count ≡ P
   pub each : size ≡ recordSize P
   pub whole : end ≡ length log
@@ -150,7 +156,7 @@ pub clear-start : (n : ℕ) (l : List ℕ) → length l ≡ n → sets (replicat
 clear-start n l e = sets-fit 0 8 l
 
 -- One event of a log: it ends the run, or the run goes on behind it.
-module _ (s p : List ℕ) (P : ℕ) (log : List ℕ) (count size end : ℕ) (r : Running) (row variables old : List ℕ) (i at : ℕ) (g : Held s p P log count size end (words r row variables) old i at) (h : at < end) (given : Given) (eg : given ≡ givenAt log at P) (values : List ℕ) (ev : values ≡ sets old 0 (table wordForm count log (at + 4))) (next : Advanced) (en : next ≡ record { answer = offerIn s p (words r row variables) given values .answer; run = offerIn s p (words r row variables) given values .state .run }) where
+module _ (s p : List ℕ) (P : ℕ) (log : List ℕ) (count size end : ℕ) (r : Running) (row variables old : List ℕ) (i sum at : ℕ) (g : Held s p P log count size end (words r row variables) old i sum at) (h : at < end) (given : Given) (eg : given ≡ givenAt log at P) (values : List ℕ) (ev : values ≡ sets old 0 (table wordForm count log (at + 4))) (next : Advanced) (en : next ≡ record { answer = offerIn s p (words r row variables) given values .answer; count = eventCountIn s p (words r row variables) given values; run = offerIn s p (words r row variables) given values .state .run }) where
   abbrev σ : Words
   σ = words r row variables
 
@@ -166,20 +172,27 @@ module _ (s p : List ℕ) (P : ℕ) (log : List ℕ) (count size end : ℕ) (r :
   answer-there : next .answer ≡ offerBy s p (words r row variables) (eventAt P log at) .answer
   answer-there = ap (λ (a : Advanced). a .answer) en ∙ ap (λ (o : Offered Words). o .answer) offer-there
 
+  count-there : next .count ≡ eventCountBy s p (words r row variables) (eventAt P log at)
+  count-there = ap (λ (a : Advanced). a .count) en ∙ (λ j. eventCountIn s p σ ((eg ∙ given-event P log at) j) (values-there j))
+
   run-there : next .run ≡ offerBy s p (words r row variables) (eventAt P log at) .state .run
   run-there = ap (λ (a : Advanced). a .run) en ∙ ap (λ (o : Offered Words). o .state .run) offer-there
 
-  pub ends-refused : (next .answer ≡ 0 → ⊥) → words.refusedAt (next .answer) (i + 1) ≡ ranAnswer endsBy (followIn s p (eventsOf P log))
-  ends-refused k = follow-refused (works s p) P log σ i at end (g .following) h (eventAt P log at) refl (next .answer) answer-there k
+  pub ends-refused : (next .answer ≡ 0 → ⊥) → (words.refusedAt (next .answer) (i + 1) ≡ ranAnswer endsBy (followIn s p (eventsOf P log))) × (sum ≡ followCount s p (eventsOf P log))
+  ends-refused k = follow-refused (works s p) P log σ i sum at end (g .following) h (eventAt P log at) refl (next .answer) answer-there k
 
-  module _ (z : next .answer ≡ 0) where
-    pub ends-violated : (x : Verdict) → next .run .outcome ≡ Judged x → runPaper (Violated x) ≡ ranAnswer endsBy (followIn s p (eventsOf P log))
+  module _ (z : next .answer ≡ 0) (m : ℕ) (em : m ≡ next .count) where
+    -- as many events as a log has places, and 2^25 for each
+    pub sum-fits : sum + m < 18446744073709551616
+    sum-fits = omega (arith, em, count-there, event-few s p σ (givenOf (eventAt P log at)) (eightOf (eventAt P log at)), g .following .small, g .following .low, g .following .fits)
+
+    pub ends-violated : (x : Verdict) → next .run .outcome ≡ Judged x → (runPaper (Violated x) ≡ ranAnswer endsBy (followIn s p (eventsOf P log))) × (sum + m ≡ followCount s p (eventsOf P log))
     ends-violated x k =
-        follow-violated (works s p) P log σ i at end (g .following) h (eventAt P log at) refl (sym answer-there ∙ z) (offerBy s p σ (eventAt P log at) .state) refl x (ap (λ (q : Running). q .outcome) (sym run-there) ∙ k)
+        follow-violated (works s p) P log σ i sum at end (g .following) h (eventAt P log at) refl (sym answer-there ∙ z) (offerBy s p σ (eventAt P log at) .state) refl m (em ∙ count-there) x (ap (λ (q : Running). q .outcome) (sym run-there) ∙ k)
 
     pub goes-on : next .run .outcome ≡ Open → (row₁ variables₁ : List ℕ)
         → (row₁ ≡ offerIn s p (words r row variables) given values .state .row) × (variables₁ ≡ offerIn s p (words r row variables) given values .state .variables)
-        → Held s p P log count size end (words (next .run) row₁ variables₁) values (i + 1) (at + size)
+        → Held s p P log count size end (words (next .run) row₁ variables₁) values (i + 1) (sum + m) (at + size)
     goes-on k row₁ variables₁ (a, b) =
         let row-there = a ∙ ap (λ (o : Offered Words). o .state .row) offer-there in
         let variables-there = b ∙ ap (λ (o : Offered Words). o .state .variables) offer-there in
@@ -187,7 +200,7 @@ module _ (s p : List ℕ) (P : ℕ) (log : List ℕ) (count size end : ℕ) (r :
         let many = length-records wordForm count (drop (at + 4) log) in
         let to : words (next .run) row₁ variables₁ ≡ offerBy s p σ (eventAt P log at) .state = λ j. words (run-there j) (row-there j) (variables-there j) in
         record {
-          following = follow-next (works s p) P log σ i at end (g .following) h (eventAt P log at) refl (sym answer-there ∙ z) (words (next .run) row₁ variables₁) to k size (g .each);
+          following = follow-next (works s p) P log σ i sum at end (g .following) h (eventAt P log at) refl (sym answer-there ∙ z) (words (next .run) row₁ variables₁) to m (em ∙ count-there) k size (g .each);
           many = g .many;
           each = g .each;
           whole = g .whole;

@@ -17,14 +17,14 @@ returns : tie.Need-returns
 returns c =
     let a = c .before .before .before .before .before .before .before .before .args in
     let h = answer-accepted _ (c .before .before .before .before .prepare-sheet .result) (c .before .before .before .before .prepare-sheet .ensures .0) (search needs) in
-    sheet-ran (a .s .now) (a .log .now) h _ (planned _ h (sheetInto (a .s .now)) _ (c .before .before .before .before .prepare-sheet .ensures .1)) _ (c .run-planned .ensures)
+    sheet-ran (a .s .now) (a .log .now) _ _ _ (c .run-planned .ensures .0) (c .run-planned .ensures .1) h (planned _ h (sheetInto (a .s .now)) _ (c .before .before .before .before .prepare-sheet .ensures .1))
 
 returns-2 : tie.Need-returns-2
 returns-2 c =
-    let a = c .before .before .before .before .before .before .before .args in
-    sheet-unread (a .s .now) (a .log .now) (c .before .before .before .prepare-sheet .result) (c .before .before .before .prepare-sheet .ensures .0) _ (search needs)
+    let a = c .before .before .before .before .before .before .before .before .args in
+    rw (c .unread .ensures) (sheet-unread (a .s .now) (a .log .now) (c .before .before .before .before .prepare-sheet .result) _ (search needs) (c .before .before .before .before .prepare-sheet .ensures .0))
 
 pub run-sheet-spec : {M : Type 1} → statement M
 run-sheet-spec =
     tie.close
-    (tie.spec (λ c κs. search needs) (λ c. search needs) run-planned-requires (λ c. search needs) returns returns-2)
+    (tie.spec (λ c κs. search needs) (λ c. search needs) run-planned-requires (λ c. search needs) (λ c κs. search needs) returns returns-2)

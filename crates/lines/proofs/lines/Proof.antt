@@ -13,7 +13,7 @@ slice-aggregate-sheet : tie.Need-slice-aggregate-sheet
 slice-aggregate-sheet c = sym (length-take-le _ _ (c .before .sheet-size .ensures .1))
 
 returns-2 : tie.Need-returns-2
-returns-2 c = print-lines _ _ _ _ (c .before .before .before .before .before .before .before .before .before .before .before .before .before .if1 .left) (c .before .before .before .before .before .before .before .before .before .before .before .before .sheet-size .ensures .0) (c .before .before .before .before .before .before .before .before .run .ensures) (c .before .before .before .network-run .ensures) (c .before .before .before .before .before .before .before .line .ensures) (c .before .before .line2 .ensures)
+returns-2 c = print-lines _ _ _ _ (c .before .before .before .before .before .before .before .before .before .before .before .before .before .if1 .left) (c .before .before .before .before .before .before .before .before .before .before .before .before .sheet-size .ensures .0) (c .before .before .before .before .before .before .before .before .sheet-run .ensures) (c .before .before .before .network-run .ensures) (c .before .before .before .before .before .before .before .line .ensures) (c .before .before .line2 .ensures)
 
 pub lines-spec : {M : Type 1} → statement M
 lines-spec =

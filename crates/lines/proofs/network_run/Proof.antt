@@ -13,7 +13,7 @@ slice-aggregate-run : tie.Need-slice-aggregate-run
 slice-aggregate-run c = written-cut _ _ (c .before .before .before .before .before .translate .result) (c .before .before .before .before .before .translate .ensures .0) _ (search needs) _ (c .before .before .before .before .before .translate .ensures .1)
 
 returns : tie.Need-returns
-returns c = written-run _ _ (c .before .before .before .before .before .before .translate .result) (c .before .before .before .before .before .before .translate .ensures .0) (c .before .before .before .n .given .0 .0) (search needs) _ (c .before .before .before .before .before .before .translate .ensures .1) _ _ (c .run .ensures)
+returns c = written-run _ _ (c .before .before .before .before .before .before .translate .result) (c .before .before .before .before .before .before .translate .ensures .0) (c .before .before .before .n .given .0 .0) (search needs) _ (c .before .before .before .before .before .before .translate .ensures .1) _ _ (c .run .ensures .0)
 
 returns-2 : tie.Need-returns-2
 returns-2 c = refused-run _ _ (c .before .before .before .before .translate .result) (c .before .before .before .before .translate .ensures .0) (search needs) _ (search needs) _

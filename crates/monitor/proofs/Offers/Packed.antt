@@ -37,23 +37,24 @@ use Rattle.engine.specs.declared.Advanced.{Advanced}
 use Rattle.engine.specs.declared.pack.Arms as Engine
 use Rattle.engine.specs.Packed.{wordsOf, putAt, callIn, armsIn, callAt, armsAt}
 use Rattle.engine.specs.Prepared.{sheetPlan}
-use Rattle.engine.specs.Walk.{Words, words, entries, offerIn, givenOf, eightOf}
+use Rattle.engine.specs.Walk.{Words, words, entries, offerIn, eventCountIn, givenOf, eightOf}
 use Rattle.engine.specs.Showing.{armedOf, shownBy, Steady, Carries}
 use Rattle.engine.proofs.Packed.{put-length, put-more, call-words, arms-words, out-more, narrow, armsFor, calls-taken, arms-taken, offer-narrow}
 use Rattle.engine.proofs.OnMachines.Keeps.{offer-steady}
 use Rattle.engine.proofs.MachineCarried.OnSheets.{sheet-carried}
 use Rattle.engine.proofs.Plans.Planned.{sheet-planned}
 use Rattle.engine.proofs.OnMachines.Shown.{shown-count, offer-answer, offer-shown}
+use Rattle.engine.proofs.OnMachines.Counted.{count-shown}
 use Rattle.monitor.specs.declared.Arms.{Arms}
 use Rattle.monitor.specs.declared.sound.Tables.{Tables}
 use Rattle.monitor.specs.declared.WatchState.{WatchState}
-use Rattle.monitor.specs.Monitor.{Armed, State, refusal, offer}
+use Rattle.monitor.specs.Monitor.{count, Armed, State, refusal, offer}
 use Rattle.monitor.specs.Padded.{zeroArms, unpadArmed, padArms, pad, view, tidyArms, tidy, soundState}
 use Rattle.monitor.specs.Packed.{runningOf, toNumbers, toTriples, callWords, unpacked}
 use Rattle.monitor.specs.Sound.{callSound, sound}
 use Rattle.monitor.specs.Walk.{tablesOf}
 use Rattle.monitor.proofs.Offers.Answering.{Comes, offer-takes, offer-refuses}
-use Rattle.monitor.proofs.Offers.Machined.{offer-same}
+use Rattle.monitor.proofs.Offers.Machined.{offer-same, count-same}
 
 -- The words of a call show it.
 words-show : (P : ℕ) (c : Call) (a : Arms) → length (a .triples) ≡ 4 → length (c .kept) ≡ 8 → armedOf P (wordsOf c (toNumbers a)) ≡ unpadArmed P c a
@@ -256,6 +257,12 @@ module _ (s : List ℕ) (read : reading sheetLayout s ≡ 0) (w : WatchState) (h
       ∙ ap (λ (o : Offered State). o .answer) (sym (offer-same S (view S w) e))
       ∙ offered-answer (refusal S (view S w) e) (view S w) _
 
+  pub count-there : eventCountIn s (sheetPlan s) (words (runningOf w) row (w .variables)) (givenOf e) (eightOf e) ≡ count (sheetOf s) (view (sheetOf s) w) e
+  count-there =
+      count-shown (ofSheet S) T s (sheetPlan s) σ e carried steady long
+      ∙ ap (λ (τ : State). Machine.count (ofSheet S) τ e) shown-view
+      ∙ sym (count-same S (view S w) e)
+
   pub state-there : every small (take (w .opened) (w .calls)) ≡ true → e .number < 65536 → e .unit < 256
       → unpacked (sheetOf s .common .programs) (sheetOf s .common .monitors) (offerIn s (sheetPlan s) (words (runningOf w) row (w .variables)) (givenOf e) (eightOf e) .state) ≡ pad (offer (sheetOf s) (view (sheetOf s) w) e .state)
   unfolding ofSheet sheetOf
@@ -279,7 +286,7 @@ module _ (s : List ℕ) (read : reading sheetLayout s ≡ 0) (w : WatchState) (h
 module _ (s plan : List ℕ) (w : WatchState) (event : Record) (values : List ℕ) (pre : (reading sheetLayout s ≡ 0) × (plan ≡ sheetPlan s) × (soundState (sheetOf s) w ≡ true))
     (given : Given) (eg : (given ≡ givenOf (eventOf event values)) × (event .number < 65536) × (event .unit < 256)) (eight : List ℕ) (e8 : eight ≡ fit 8 0 values) (run : Running) (er : run ≡ runningOf w)
     (row : List ℕ) (ew : (entries (w .opened) row ≡ callWords w) × (every small (take (w .opened) (w .calls)) ≡ true) × (length row ≡ 256))
-    (next : Advanced) (en : next ≡ record { answer = offerIn s plan (words run row (w .variables)) given eight .answer; run = offerIn s plan (words run row (w .variables)) given eight .state .run }) where
+    (next : Advanced) (en : next ≡ record { answer = offerIn s plan (words run row (w .variables)) given eight .answer; count = eventCountIn s plan (words run row (w .variables)) given eight; run = offerIn s plan (words run row (w .variables)) given eight .state .run }) where
   abbrev after : Offered Words
   after = offerIn s (sheetPlan s) (words (runningOf w) row (w .variables)) (givenOf (eventOf event values)) (fit 8 0 values)
 
@@ -292,12 +299,18 @@ module _ (s plan : List ℕ) (w : WatchState) (event : Record) (values : List �
   answered : next .answer ≡ refusal (sheetOf s) (view (sheetOf s) w) (eventOf event values)
   answered = ap (λ (x : Advanced). x .answer) en ∙ ap (λ (o : Offered Words). o .answer) came ∙ answer-there s (pre .0) w (pre .2) row (ew .0) (ew .2) (eventOf event values)
 
-  pub offer-refused : (next .answer ≡ 0 → ⊥) → Comes s w (eventOf event values) (declined (next .answer)) w
+  counted : next .count ≡ count (sheetOf s) (view (sheetOf s) w) (eventOf event values)
+  counted =
+      ap (λ (x : Advanced). x .count) en
+      ∙ (λ i. eventCountIn s (pre .1 i) (words (er i) row (w .variables)) (eg .0 i) (e8 i))
+      ∙ count-there s (pre .0) w (pre .2) row (ew .0) (ew .2) (eventOf event values)
+
+  pub offer-refused : (next .answer ≡ 0 → ⊥) → Comes s w (eventOf event values) (declined (next .answer)) w 0
   offer-refused k = offer-refuses s w (eventOf event values) (pre .0) (pre .2) (next .answer) answered k
 
   pub offer-taken : next .answer ≡ 0 → (row₁ variables₁ : List ℕ)
       → (row₁ ≡ offerIn s plan (words run row (w .variables)) given eight .state .row) × (variables₁ ≡ offerIn s plan (words run row (w .variables)) given eight .state .variables)
-      → (programs monitors : ℕ) → programs ≡ getD plan 1 0 → monitors ≡ getD plan 2 0 → (state : WatchState) → state ≡ unpacked programs monitors (words (next .run) row₁ variables₁) → Comes s w (eventOf event values) taken state
+      → (programs monitors : ℕ) → programs ≡ getD plan 1 0 → monitors ≡ getD plan 2 0 → (state : WatchState) → state ≡ unpacked programs monitors (words (next .run) row₁ variables₁) → Comes s w (eventOf event values) taken state (next .count)
   unfolding ofSheet
   offer-taken z row₁ variables₁ (e₁, e₂) programs monitors ep em state es =
       let c = carried s (pre .0) w (pre .2) row (ew .0) (ew .2) (eventOf event values) in
@@ -305,7 +318,7 @@ module _ (s plan : List ℕ) (w : WatchState) (event : Record) (values : List �
       let held : monitors ≡ sheetOf s .common .monitors = em ∙ ap (λ (p : List ℕ). getD p 2 0) (pre .1) ∙ c .monitors in
       let words-after : words (next .run) row₁ variables₁ ≡ after .state = (λ i. words (en i .run) (e₁ i) (e₂ i)) ∙ ap (λ (o : Offered Words). o .state) came in
       let made : state ≡ unpacked (sheetOf s .common .programs) (sheetOf s .common .monitors) (after .state) = es ∙ (λ i. unpacked (lent i) (held i) (words-after i)) in
-      offer-takes s w (eventOf event values) (pre .0) (pre .2) (next .answer) answered z state (made ∙ state-there s (pre .0) w (pre .2) row (ew .0) (ew .2) (eventOf event values) (ew .1) (eg .1) (eg .2))
+      offer-takes s w (eventOf event values) (pre .0) (pre .2) (next .answer) answered z state (made ∙ state-there s (pre .0) w (pre .2) row (ew .0) (ew .2) (eventOf event values) (ew .1) (eg .1) (eg .2)) (next .count) counted
 
 -- At most sixteen calls of a sound state are open, and the triples of an accepted sheet begin where its plan says.
 pub sound-opened : (S : Sheet) (w : WatchState) → soundState S w ≡ true → w .opened ≤ 16

@@ -5,21 +5,25 @@ use mathlib.Core.Option.{Option, none, some}
 use mathlib.Core.List.{List, [], _∷_, _++_, map, map-map, map-append, append-nil, append-assoc}
 use Prim.Native.Nat.{ℕ, zero, suc, _+_}
 use borrow.Author.Tests.{eqb-true}
+use Rattle.condition.specs.Meaning.{environment}
 use Rattle.sheet.specs.declared.Pair.{Pair}
 use Rattle.sheet.specs.Parts.{Paired, Network, bases}
 use Rattle.sheet.specs.Log.{Event}
-use Rattle.step.specs.Lists.{first, keep, least}
-use Rattle.step.specs.Meets.{meets}
-use Rattle.step.specs.Moves.{Configuration, seen, enabled, moved}
+use Rattle.step.specs.Lists.{first, keep, least, total}
+use Rattle.step.specs.Meets.{meets, meetsCount}
+use Rattle.step.specs.Moves.{Configuration, seen, enabled, moved, movedCount}
 use Rattle.step.specs.Calls.{Call, isEntry, entryFor}
 use Rattle.step.specs.Verdicts.{verdict}
 use Rattle.step.specs.Runs.{offered}
+use Rattle.step.specs.Answers.{unlessTaken}
 use Rattle.step.proofs.OnLists.Keeping.{keep-map}
+use Rattle.step.proofs.OnLists.Sums.{total-map}
 use Rattle.step.proofs.OnLists.Lists.{first-passes}
 use Rattle.step.proofs.OnEvents.Runs.{offered-answer}
 use Rattle.engine.specs.Machine as Engine
 use Rattle.engine.specs.Machine.{Machine, Armed}
 use Rattle.engine.specs.Machines.{ofNetwork, pairsOf}
+use Rattle.engine.proofs.OnMachines.Candidates.{network-arming, network-asked}
 use Rattle.engine.proofs.MachineCarried.Carried.{image, first-image}
 use Rattle.network.specs.declared.Checker.{Checker}
 use Rattle.network.specs.Network as Network
@@ -47,9 +51,9 @@ module _ (N : Network) (τ : Engine.State) (e : Event) where
   k = τ .configuration
 
   -- what an entry creates is what it arms
-  created-armed : map (checker (e .number) (τ .position + 1)) (ofNetwork N .arming (τ .configuration) e) ≡ created N (τ .configuration) (τ .position + 1) e
-  unfolding created ofNetwork
-  created-armed = map-map (checker (e .number) (τ .position + 1)) (λ (p : Pair). p .template) (keep (λ (p : Pair). meets (N .common) (p .condition) (seen e k)) (pairsOf (first (λ (t : Paired). enabled (N .common) k e (t .base)) (N .transitions))))
+  created-armed : map (checker (e .number) (τ .position + 1)) (Engine.arming (ofNetwork N) (τ .configuration) e) ≡ created N (τ .configuration) (τ .position + 1) e
+  unfolding created
+  created-armed = ap (map (checker (e .number) (τ .position + 1))) (network-arming N k e) ∙ map-map (checker (e .number) (τ .position + 1)) (λ (p : Pair). p .template) (keep (λ (p : Pair). meets (N .common) (p .condition) (seen e k)) (pairsOf (first (λ (t : Paired). enabled (N .common) k e (t .base)) (N .transitions))))
 
   refusal-same : Network.refusal N (ungrouped τ) e ≡ Engine.refusal (ofNetwork N) τ e
   unfolding Network.refusal Engine.refusal ungrouped ofNetwork
@@ -58,7 +62,7 @@ module _ (N : Network) (τ : Engine.State) (e : Event) where
   entered-same : Network.entered N (ungrouped τ) e ≡ ungrouped (Engine.entered (ofNetwork N) τ e)
   unfolding Network.entered Engine.entered ungrouped ofNetwork
   entered-same =
-      let new : Armed = record { call = record { number = e .number; unit = e .unit; entry = τ .position + 1; kept = e .values }; armed = M .arming k e } in
+      let new : Armed = record { call = record { number = e .number; unit = e .unit; entry = τ .position + 1; kept = e .values }; armed = Engine.arming M k e } in
       let row = ap (λ (l : List Checker). rowOf (τ .calls) ++ l) (sym created-armed) ∙ sym (row-more (τ .calls) new) in
       let calls = sym (map-append (λ (a : Armed). a .call) (τ .calls) (new ∷ [])) in
       let to = moved (N .common) (bases N) k e in
@@ -73,11 +77,16 @@ module _ (N : Network) (τ : Engine.State) (e : Event) where
     unfolding Network.fails Engine.fails ofNetwork
     fails-same c l = keep-map (Network.fails N k e c) (checker (c .number) (c .entry)) l
 
+    bound-here : (a : Armed) → first (Engine.ofNumber (e .number)) (τ .calls) ≡ some a → keep (Network.boundTo (a .call .number)) (rowOf (τ .calls)) ≡ map (checker (a .call .number) (a .call .entry)) (a .armed)
+    bound-here a h =
+        let c = a .call in
+        let same : c .number ≡ e .number = eqb-true (c .number) (e .number) (first-passes (Engine.ofNumber (e .number)) (τ .calls) a h .1) in
+        bound-first (c .number) (τ .calls) d a (subst (λ (m : ℕ). first (Engine.ofNumber m) (τ .calls) ≡ some a) (sym same) h)
+
     failing-call : (a : Armed) → first (Engine.ofNumber (e .number)) (τ .calls) ≡ some a → Network.failing N k e (rowOf (τ .calls)) (some (a .call)) ≡ Engine.failing M k e (some a)
     failing-call a h =
         let c = a .call in
-        let same : c .number ≡ e .number = eqb-true (c .number) (e .number) (first-passes (Engine.ofNumber (e .number)) (τ .calls) a h .1) in
-        let own = bound-first (c .number) (τ .calls) d a (subst (λ (m : ℕ). first (Engine.ofNumber m) (τ .calls) ≡ some a) (sym same) h) in
+        let own = bound-here a h in
         ap (λ (l : List Checker). least (map (λ (h : Checker). h .template) (keep (Network.fails N k e c) l))) own
         ∙ ap (λ (l : List Checker). least (map (λ (h : Checker). h .template) l)) (fails-same c (a .armed))
         ∙ ap least (templates-back (c .number) (c .entry) (keep (Engine.fails M k e c) (a .armed)))
@@ -105,3 +114,28 @@ module _ (N : Network) (τ : Engine.State) (e : Event) where
         go zero true = entered-same
         go zero false = exited-same
         go (suc n) b = refl
+
+  -- what is counted: the conditions of the candidates are those of the pairs
+  pairs-same : Network.pairCount N k e ≡ Engine.askedCount M k e
+  unfolding Network.pairCount
+  pairs-same = sym (network-asked N k e)
+
+  module _ (d : Apart τ) where
+    judged-call : (a : Armed) → first (Engine.ofNumber (e .number)) (τ .calls) ≡ some a → Network.postconditionCount N k e (rowOf (τ .calls)) (some (a .call)) ≡ Engine.judgedCount M k e (some a)
+    unfolding ofNetwork
+    judged-call a h =
+        let c = a .call in
+        let own = bound-here d a h in
+        ap (total (λ (h : Checker). meetsCount (N .common) (Network.templateIn N (h .template) .postcondition) (environment (e .values) (k .variables) (c .kept)))) own
+        ∙ total-map (checker (c .number) (c .entry)) _ (a .armed)
+
+    judged-same : Network.postconditionCount N k e (rowOf (τ .calls)) (first (Network.ofNumber (e .number)) (map (λ (a : Armed). a .call) (τ .calls))) ≡ Engine.judgedCount M k e (first (Engine.ofNumber (e .number)) (τ .calls))
+    judged-same = ap (Network.postconditionCount N k e (rowOf (τ .calls))) (first-image (Network.ofNumber (e .number)) (λ (a : Armed). a .call) (τ .calls)) ∙ go (first (Engine.ofNumber (e .number)) (τ .calls)) refl
+      where
+        go : (o : Option Armed) → first (Engine.ofNumber (e .number)) (τ .calls) ≡ o → Network.postconditionCount N k e (rowOf (τ .calls)) (image (λ (a : Armed). a .call) o) ≡ Engine.judgedCount M k e o
+        go none h = refl
+        go (some a) h = judged-call a h
+
+    pub count-same : Network.count N (ungrouped τ) e ≡ Engine.count (ofNetwork N) τ e
+    unfolding Network.count Engine.count Engine.takenCount ungrouped ofNetwork
+    count-same = λ i. unlessTaken (refusal-same i) 0 (movedCount (N .common) (bases N) k e + cond (isEntry e) (pairs-same i) (judged-same i))

@@ -39,17 +39,18 @@ use Rattle.engine.specs.declared.Given.{Given}
 use Rattle.engine.specs.declared.Advanced.{Advanced}
 use Rattle.engine.specs.Packed.{wordsOf, callIn}
 use Rattle.engine.specs.Prepared.{networkPlan}
-use Rattle.engine.specs.Walk.{Words, words, entries, offerIn, givenOf, eightOf}
+use Rattle.engine.specs.Walk.{Words, words, entries, offerIn, eventCountIn, givenOf, eightOf}
 use Rattle.engine.specs.Showing.{armedOf, shownBy, Steady, Carries}
 use Rattle.engine.proofs.Packed.{narrow, calls-taken, offer-narrow}
 use Rattle.engine.proofs.OnMachines.Keeps.{offer-steady}
 use Rattle.engine.proofs.Plans.Planned.{network-planned}
 use Rattle.engine.proofs.MachineCarried.OnNetworks.{network-carried}
 use Rattle.engine.proofs.OnMachines.Shown.{shown-count, offer-answer, offer-shown}
+use Rattle.engine.proofs.OnMachines.Counted.{count-shown}
 use Rattle.network.specs.declared.Checker.{Checker}
 use Rattle.network.specs.declared.NetworkState.{NetworkState}
 use Rattle.network.specs.declared.sound.Tables.{Tables}
-use Rattle.network.specs.Network.{State, boundTo, refusal, offer}
+use Rattle.network.specs.Network.{count, State, boundTo, refusal, offer}
 use Rattle.network.specs.Sound.{sound}
 use Rattle.network.specs.Padded.{zeroChecker, pad, view, tidy, soundState}
 use Rattle.network.specs.Grouped.{checker, rowOf, ungrouped, templatesOf, groupedCalls, grouped}
@@ -57,7 +58,7 @@ use Rattle.network.specs.Packed.{runningOf, front, ownOf, armsOf, wordsI
 use Rattle.network.specs.Walk.{tablesOf}
 use Rattle.network.proofs.Offers.Answering.{Comes, offer-takes, offer-refuses}
 use Rattle.network.proofs.ByMachine.Bound.{bound-none, turned}
-use Rattle.network.proofs.ByMachine.ByCalls.{templates-back, answer-same, state-same}
+use Rattle.network.proofs.ByMachine.ByCalls.{templates-back, answer-same, state-same, count-same}
 use Rattle.network.proofs.Offers.Grouping.{ungrouped-grouped, grouped-few, grouped-steady}
 
 -- The words of a call show it.
@@ -240,6 +241,13 @@ module _ (s : List ℕ) (read : reading networkLayout s ≡ 0) (short : length s
       ∙ ap (λ (x : State). offer N x e .answer) back
       ∙ offered-answer (refusal N (view N w) e) (view N w) _
 
+  pub count-there : eventCountIn s (networkPlan s) (words (runningOf w) row (w .variables)) (givenOf e) (eightOf e) ≡ count (networkOf s) (view (networkOf s) w) e
+  count-there =
+      count-shown (ofNetwork N) T s (networkPlan s) σ e carried steady long
+      ∙ ap (λ (x : Machine.State). Machine.count (ofNetwork N) x e) shown-view
+      ∙ sym (count-same N τ e (resting .apart))
+      ∙ ap (λ (x : State). count N x e) back
+
   pub state-there : every small (take (w .opened) (w .calls)) ≡ true → e .number < 65536 → e .unit < 256
       → unpacked (networkOf s .common .programs) (networkOf s .common .monitors) (offerIn s (networkPlan s) (words (runningOf w) row (w .variables)) (givenOf e) (eightOf e) .state) ≡ pad (offer (networkOf s) (view (networkOf s) w) e .state)
   unfolding ofNetwork networkOf
@@ -265,7 +273,7 @@ module _ (s : List ℕ) (read : reading networkLayout s ≡ 0) (short : length s
 module _ (s plan : List ℕ) (w : NetworkState) (event : Record) (values : List ℕ) (pre : (reading networkLayout s ≡ 0) × (length s < 65536) × (plan ≡ networkPlan s) × (soundState (networkOf s) w ≡ true))
     (given : Given) (eg : (given ≡ givenOf (eventOf event values)) × (event .number < 65536) × (event .unit < 256)) (eight : List ℕ) (e8 : eight ≡ fit 8 0 values) (run : Running) (er : run ≡ runningOf w)
     (row : List ℕ) (ew : (entries (w .opened) row ≡ callWords w) × (every small (take (w .opened) (w .calls)) ≡ true) × (length row ≡ 256))
-    (next : Advanced) (en : next ≡ record { answer = offerIn s plan (words run row (w .variables)) given eight .answer; run = offerIn s plan (words run row (w .variables)) given eight .state .run }) where
+    (next : Advanced) (en : next ≡ record { answer = offerIn s plan (words run row (w .variables)) given eight .answer; count = eventCountIn s plan (words run row (w .variables)) given eight; run = offerIn s plan (words run row (w .variables)) given eight .state .run }) where
   abbrev after : Offered Words
   after = offerIn s (networkPlan s) (words (runningOf w) row (w .variables)) (givenOf (eventOf event values)) (fit 8 0 values)
 
@@ -278,13 +286,19 @@ module _ (s plan : List ℕ) (w : NetworkState) (event : Record) (values : List 
   answered : next .answer ≡ refusal (networkOf s) (view (networkOf s) w) (eventOf event values)
   answered = ap (λ (x : Advanced). x .answer) en ∙ ap (λ (o : Offered Words). o .answer) came ∙ answer-there s (pre .0) (pre .1) w (pre .3) row (ew .0) (ew .2) (eventOf event values)
 
-  pub offer-refused : (next .answer ≡ 0 → ⊥) → Comes s w (eventOf event values) (declined (next .answer)) w
+  counted : next .count ≡ count (networkOf s) (view (networkOf s) w) (eventOf event values)
+  counted =
+      ap (λ (x : Advanced). x .count) en
+      ∙ (λ i. eventCountIn s (pre .2 i) (words (er i) row (w .variables)) (eg .0 i) (e8 i))
+      ∙ count-there s (pre .0) (pre .1) w (pre .3) row (ew .0) (ew .2) (eventOf event values)
+
+  pub offer-refused : (next .answer ≡ 0 → ⊥) → Comes s w (eventOf event values) (declined (next .answer)) w 0
   offer-refused k = offer-refuses s w (eventOf event values) (pre .0) (pre .3) (next .answer) answered k
 
   pub offer-taken : next .answer ≡ 0 → (row₁ variables₁ : List ℕ)
       → (row₁ ≡ offerIn s plan (words run row (w .variables)) given eight .state .row) × (variables₁ ≡ offerIn s plan (words run row (w .variables)) given eight .state .variables)
       → (programs monitors : ℕ) → programs ≡ getD plan 1 0 → monitors ≡ getD plan 2 0 → (state : NetworkState) → state ≡ unpacked programs monitors (words (next .run) row₁ variables₁)
-      → Comes s w (eventOf event values) taken state
+      → Comes s w (eventOf event values) taken state (next .count)
   unfolding ofNetwork
   offer-taken z row₁ variables₁ (e₁, e₂) programs monitors ep em state es =
       let c = carried s (pre .0) (pre .1) w (pre .3) row (ew .0) (ew .2) (eventOf event values) in
@@ -292,7 +306,7 @@ module _ (s plan : List ℕ) (w : NetworkState) (event : Record) (values : List 
       let held : monitors ≡ networkOf s .common .monitors = em ∙ ap (λ (p : List ℕ). getD p 2 0) (pre .2) ∙ c .monitors in
       let words-after : words (next .run) row₁ variables₁ ≡ after .state = (λ i. words (en i .run) (e₁ i) (e₂ i)) ∙ ap (λ (o : Offered Words). o .state) came in
       let made : state ≡ unpacked (networkOf s .common .programs) (networkOf s .common .monitors) (after .state) = es ∙ (λ i. unpacked (lent i) (held i) (words-after i)) in
-      offer-takes s w (eventOf event values) (pre .0) (pre .3) (next .answer) answered z state (made ∙ state-there s (pre .0) (pre .1) w (pre .3) row (ew .0) (ew .2) (eventOf event values) (ew .1) (eg .1) (eg .2))
+      offer-takes s w (eventOf event values) (pre .0) (pre .3) (next .answer) answered z state (made ∙ state-there s (pre .0) (pre .1) w (pre .3) row (ew .0) (ew .2) (eventOf event values) (ew .1) (eg .1) (eg .2)) (next .count) counted
 
 -- At most sixteen calls of a sound state are open, and at most sixty-four checkers live.
 pub sound-opened : (N : Network) (w : NetworkState) → soundState N w ≡ true → (w .opened ≤ 16) × (w .living ≤ 64)

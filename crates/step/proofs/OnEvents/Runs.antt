@@ -15,7 +15,7 @@ use Rattle.sheet.specs.Log.{Event, logReading, recordsIn}
 use Rattle.sheet.specs.Answer.{readingPaper, logPaper, readOf, answer, headerOf}
 use Rattle.sheet.proofs.Answers.{answer-refused, log-read, log-refused}
 use Rattle.step.specs.declared.Verdict.{Verdict}
-use Rattle.step.specs.Answers.{Ending, declined, refused, answerOf, unlessRefused}
+use Rattle.step.specs.Answers.{Ending, declined, refused, answerOf, unlessTaken, unlessRefused}
 use Rattle.step.specs.Runs.{Offered, offered, violated, refusedAt, runFrom}
 
 -- What an event comes to: its refusal's number, and a state of which holds what held before it and what holds after it where it is taken.
@@ -52,10 +52,10 @@ module _ (s l : List ℕ) (h : Header) (eh : h ≡ headerOf s) (r : LogReading) 
   pub log-accepted : (m : ℕ) → r ≡ log.Records m → logReading (byte s 5) l ≡ 0
   log-accepted m e = log-read (logReading (byte s 5) l) (recordsIn (byte s 5) l) r answered m e
 
-  pub unlogged-run : (m : ℕ) → r ≡ log.Refused m → (rest : Ending) → refused m ≡ unlessRefused (logReading (byte s 5) l) rest
-  unlogged-run m e rest =
+  pub unlogged-run : (m : ℕ) → r ≡ log.Refused m → (rest : Ending) (count : ℕ) → (refused m ≡ unlessRefused (logReading (byte s 5) l) rest) × (0 ≡ unlessTaken (logReading (byte s 5) l) 0 count)
+  unlogged-run m e rest count =
       let (j, g, x) = log-refused (logReading (byte s 5) l) (recordsIn (byte s 5) l) r answered m e in
-      rw g (ap refused x)
+      rw g (ap refused x, refl)
 
 -- One turn of a run.
 module _ {S : Type 0} (offer : S → Event → Offered S) (verdict : S → Option Verdict) (i : ℕ) (σ : S) (e : Event) (es : List Event) where

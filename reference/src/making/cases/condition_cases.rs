@@ -3,6 +3,7 @@
 
 use crate::framing::condition_frames::{Frame, Kind};
 use crate::implementation::expr::Counts;
+use crate::making::cases::condition_counts;
 use crate::making::cases::condition_ends::{self, difference, sum};
 use crate::making::random::Random;
 use crate::making::random_expr::{self, Taste};
@@ -10,7 +11,10 @@ use crate::making::random_expr::{self, Taste};
 /// A frame and, where it was chosen by hand, the answer worked out apart from the evaluator.
 pub struct Row {
     pub frame: Frame,
+    /// The line without its count.
     pub expected: Option<String>,
+    /// The count, where it was worked out too.
+    pub count: Option<u64>,
 }
 
 /// What a frame lends: program, monitor and kept values.
@@ -23,11 +27,11 @@ pub(crate) struct Values<'a>(
 
 pub(crate) const NOTHING: Values = Values(&[], &[], &[]);
 /// One of each, all different, so that reading the wrong kind shows.
-const ONE: Values = Values(&[11], &[22], &[33]);
+pub(crate) const ONE: Values = Values(&[11], &[22], &[33]);
 const TWO: Values = Values(&[11, -12], &[22, -23], &[33, -34]);
 
-const REFUSED_4: &str = "refused 4";
-const REFUSED_5: &str = "refused 5";
+pub(crate) const REFUSED_4: &str = "refused 4";
+pub(crate) const REFUSED_5: &str = "refused 5";
 pub(crate) const ENDS: [i32; 7] = [i32::MIN, i32::MIN + 1, -1, 0, 1, i32::MAX - 1, i32::MAX];
 
 #[derive(Default)]
@@ -41,7 +45,24 @@ impl Rows {
         self.rows.push(Row {
             frame,
             expected: Some(expected.to_string()),
+            count: None,
         });
+    }
+
+    /// The count of the row that was added last.
+    pub(crate) fn counts(&mut self, count: u64) {
+        if let Some(row) = self.rows.last_mut() {
+            row.count = Some(count);
+        }
+    }
+
+    /// The rows that these add, one after the other.
+    pub(crate) fn of(parts: impl IntoIterator<Item = fn(&mut Rows)>) -> Vec<Row> {
+        let mut rows = Rows::default();
+        for add in parts {
+            add(&mut rows);
+        }
+        rows.rows
     }
 
     pub(crate) fn condition(&mut self, bytes: &[u8], values: Values, expected: bool) {
@@ -86,7 +107,7 @@ pub(crate) const P0: &[u8] = &[17, 0];
 pub(crate) const P1: &[u8] = &[17, 1];
 pub(crate) const P2: &[u8] = &[17, 2];
 pub(crate) const M0: &[u8] = &[18, 0];
-const M1: &[u8] = &[18, 1];
+pub(crate) const M1: &[u8] = &[18, 1];
 pub(crate) const E0: &[u8] = &[19, 0];
 pub(crate) const E1: &[u8] = &[19, 1];
 
@@ -107,7 +128,7 @@ pub(crate) fn joined(parts: &[&[u8]]) -> Vec<u8> {
 }
 
 /// `count` times `not`, then `end`.
-fn nots(count: usize, end: &[u8]) -> Vec<u8> {
+pub(crate) fn nots(count: usize, end: &[u8]) -> Vec<u8> {
     let mut bytes = vec![1; count];
     bytes.extend_from_slice(end);
     bytes
@@ -317,12 +338,12 @@ fn right_deep(operator: u8, count: usize, leaf: &[u8]) -> Vec<u8> {
 }
 
 /// `choose` nested in its first value (taken).
-fn deep_first(levels: usize, inner: &[u8]) -> Vec<u8> {
+pub(crate) fn deep_first(levels: usize, inner: &[u8]) -> Vec<u8> {
     (0..levels).fold(inner.to_vec(), |value, _| op(22, &[TRUE, &value, P0]))
 }
 
 /// `choose` nested in its second value (taken).
-fn deep_second(levels: usize, inner: &[u8]) -> Vec<u8> {
+pub(crate) fn deep_second(levels: usize, inner: &[u8]) -> Vec<u8> {
     joined(&[&op(22, &[FALSE, P0]).repeat(levels), inner])
 }
 
@@ -332,7 +353,7 @@ fn in_turn(levels: usize) -> Vec<u8> {
 }
 
 /// Each level holds where the one within it does: then 11 is chosen, and otherwise 22.
-fn in_turn_from(levels: usize, inner: &[u8]) -> Vec<u8> {
+pub(crate) fn in_turn_from(levels: usize, inner: &[u8]) -> Vec<u8> {
     let mut bytes = inner.to_vec();
     for _ in 0..levels {
         let chosen = op(22, &[&bytes, P0, M0]);
@@ -779,10 +800,16 @@ fn action_lengths(rows: &mut Rows) {
     rows.no_action(&[19, 17, 0], ONE);
 }
 
-/// The cases chosen by hand, each with its answer.
+/// The cases chosen by hand, each with its answer; those of counts come last.
 pub fn chosen() -> Vec<Row> {
-    let mut rows = Rows::default();
-    for add in [
+    let mut rows = chosen_first();
+    rows.extend(condition_counts::chosen());
+    rows
+}
+
+/// All but those of counts.
+fn chosen_first() -> Vec<Row> {
+    let parts: [fn(&mut Rows); 21] = [
         operators,
         starred,
         ends_of_range,
@@ -804,13 +831,8 @@ pub fn chosen() -> Vec<Row> {
         full_values,
         long_malformed,
         long_actions,
-    ]
-    .into_iter()
-    .chain(condition_ends::ALL)
-    {
-        add(&mut rows);
-    }
-    rows.rows
+    ];
+    Rows::of(parts.into_iter().chain(condition_ends::ALL))
 }
 
 // ---- Random cases -----------------------------------------------------------------------------
@@ -822,7 +844,7 @@ const DAMAGED: usize = 180;
 const LONG: usize = 40;
 
 /// Of a length that `rooms` bound.
-fn random_frame(random: &mut Random, rooms: &[usize]) -> Frame {
+pub(crate) fn random_frame(random: &mut Random, rooms: &[usize]) -> Frame {
     let kind = Kind::ALL[random.below(5)];
     let counts = Counts {
         program: random.between(0, 3),
@@ -869,6 +891,15 @@ fn long_frame(random: &mut Random) -> Frame {
     }
 }
 
+/// Without an answer that is known apart from the evaluator.
+pub(crate) fn unknown(frame: Frame) -> Row {
+    Row {
+        frame,
+        expected: None,
+        count: None,
+    }
+}
+
 fn random_rows() -> Vec<Row> {
     const ROOMS: [usize; 5] = [8, 16, 24, 32, 64];
     let random = &mut Random::new(SEED);
@@ -884,16 +915,17 @@ fn random_rows() -> Vec<Row> {
         let frame = long_frame(random);
         frames.push(damaged(random, frame));
     }
-    let row = |frame| Row {
-        frame,
-        expected: None,
-    };
-    frames.into_iter().map(row).collect()
+    frames.into_iter().map(unknown).collect()
 }
 
-/// All the cases: the chosen ones, then the random ones.
+/// All the cases, in two parts of which each begins on a page of its own: the chosen ones and then the random
+/// ones; those of counts.
+pub fn parts() -> [Vec<Row>; 2] {
+    let mut first = chosen_first();
+    first.extend(random_rows());
+    [first, condition_counts::all()]
+}
+
 pub fn all() -> Vec<Row> {
-    let mut rows = chosen();
-    rows.extend(random_rows());
-    rows
+    parts().into_iter().flatten().collect()
 }

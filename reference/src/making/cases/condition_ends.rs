@@ -8,7 +8,7 @@ use crate::making::cases::condition_cases::{
 
 const LEAST: i32 = i32::MIN;
 const GREATEST: i32 = i32::MAX;
-const PLUS: u8 = 20;
+pub(crate) const PLUS: u8 = 20;
 const MINUS: u8 = 21;
 const HALF: i32 = 1 << 30;
 

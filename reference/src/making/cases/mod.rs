@@ -2,6 +2,7 @@
 
 pub mod bench_cases;
 pub mod condition_cases;
+pub mod condition_counts;
 pub(crate) mod condition_ends;
 mod precondition_roles;
 pub mod program_cases;

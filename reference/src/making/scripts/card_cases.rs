@@ -37,7 +37,7 @@ pub fn in_version_3(bytes: &[u8]) -> Vec<u8> {
     card.bytes()
 }
 
-/// A page whose networks are in version 3; what is expected of it stays.
+/// A page whose networks are in version 3; what is expected of it stays, but for counts.
 pub fn page_in_version_3(page: &Page) -> Page {
     let mut bench = Bench::<Network>::default();
     let mut rewritten = Page::new();
@@ -50,6 +50,7 @@ pub fn page_in_version_3(page: &Page) -> Page {
             sort: row.sort,
             line: bench.carry_out(&frame),
             expected: row.expected.clone(),
+            count: None,
             frame,
         });
     }

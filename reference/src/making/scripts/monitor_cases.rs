@@ -9,9 +9,11 @@ use crate::making::cases::sheet_cases::SHEET_A;
 use crate::making::draft::SheetDraft;
 use crate::making::generate::{self, Size};
 use crate::making::random::Random;
+use crate::making::scripts::count_forms::Form;
 use crate::making::scripts::counting_preconditions;
 use crate::making::scripts::entry_clauses;
 use crate::making::scripts::entry_positions;
+use crate::making::scripts::judged_counts;
 use crate::making::scripts::monitor_clauses::{
     BASE_CLAUSES, EDGE_CLAUSES, FULL_CLAUSES, TINY_CLAUSES,
 };
@@ -20,6 +22,7 @@ use crate::making::scripts::script::{self, entry, exit, Sort};
 use crate::making::scripts::script_ends;
 use crate::making::scripts::shared_cases::{self, base, full_state, tiny, Events, Near, Subject};
 use crate::making::scripts::shared_clauses::Clause;
+use crate::making::scripts::tried_counts;
 use crate::making::scripts::wide_cases;
 
 pub type Page = script::Page<Arms>;
@@ -287,6 +290,14 @@ fn refusals() -> Page {
     ])
 }
 
+/// How many operators and operands are evaluated: what the pages before it have no room for.
+fn last_counts() -> Page {
+    let others = tried_counts::others::<Sheet>(Form::Sheet).into_iter();
+    others
+        .chain(judged_counts::runs::<Sheet>(Form::Sheet))
+        .collect()
+}
+
 pub fn all() -> Vec<Page> {
     let first = Script::of(&[
         document,
@@ -303,6 +314,9 @@ pub fn all() -> Vec<Page> {
         refusals(),
         entry_positions::page::<Sheet>(),
         entry_positions::long_page::<Sheet>(),
+        tried_counts::rivals_page::<Sheet>(Form::Sheet),
+        judged_counts::events_page::<Sheet>(Form::Sheet),
+        last_counts(),
     ];
     [vec![first], wide_cases::pages::<Sheet>(), last.into()]
         .into_iter()

@@ -13,9 +13,11 @@ use crate::making::draft::{NetworkDraft, SheetDraft};
 use crate::making::generate::{self, Size};
 use crate::making::random::Random;
 use crate::making::scripts::card_cases;
+use crate::making::scripts::count_forms::Form;
 use crate::making::scripts::counting_pairs;
 use crate::making::scripts::entry_clauses;
 use crate::making::scripts::entry_positions;
+use crate::making::scripts::judged_counts;
 use crate::making::scripts::monitor_cases::random_sheet;
 use crate::making::scripts::network_clauses::{
     BASE_CLAUSES, CROWD_CLAUSES, EDGE_CLAUSES, TINY_CLAUSES,
@@ -27,6 +29,7 @@ use crate::making::scripts::shared_cases::{
     self, base, base_state, full_state, tiny, Events, Near, Subject, LAST,
 };
 use crate::making::scripts::shared_clauses::Clause;
+use crate::making::scripts::tried_counts;
 use crate::making::scripts::wide_cases;
 
 pub type Page = script::Page<Checkers>;
@@ -993,6 +996,22 @@ fn entries() -> [Page; 4] {
     [entry_positions::page::<Network>(), long, chosen, long_cards]
 }
 
+/// How many operators and operands are evaluated: of version 2, then of version 3.
+fn counts() -> Vec<Page> {
+    let of = |form: Form| {
+        let rivals = tried_counts::rivals_page::<Network>(form);
+        let events = judged_counts::events_page::<Network>(form);
+        let others = tried_counts::others::<Network>(form).into_iter();
+        let runs = judged_counts::runs::<Network>(form);
+        let last = others.chain(runs).chain(judged_counts::of_networks(form));
+        [rivals, events, last.collect()]
+    };
+    [Form::Version2, Form::Version3]
+        .into_iter()
+        .flat_map(of)
+        .collect()
+}
+
 pub fn all() -> Vec<Page> {
     let first = Script::of(&[&CHOSEN[..], &[reading, random_cases]].concat());
     let carried_over = Script::of(&CHOSEN);
@@ -1006,6 +1025,7 @@ pub fn all() -> Vec<Page> {
         counting_pairs::pages().into(),
         refusals().into(),
         entries().into(),
+        counts(),
     ]
     .into_iter()
     .flatten()

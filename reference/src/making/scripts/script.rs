@@ -42,6 +42,8 @@ pub enum Sort {
     Preconditions,
     /// Where calls were entered.
     Entries,
+    /// How many operators and operands are evaluated.
+    Counts,
 }
 
 /// A frame, the line that the reference gives for it, and the answer written down by hand.
@@ -49,8 +51,10 @@ pub struct Row<O> {
     pub sort: Sort,
     pub frame: Frame<O>,
     pub line: Option<String>,
-    /// The whole line, or its front up to a space.
+    /// The whole line without its count, or its front up to a space.
     pub expected: Option<String>,
+    /// The count, where it was worked out too.
+    pub count: Option<u64>,
 }
 
 /// A script of its own: at most as many bytes as a page has.
@@ -91,14 +95,21 @@ pub struct Script<R: Rules> {
     pub sort: Sort,
 }
 
-impl<R: Rules> Script<R> {
-    /// The rows that these parts make, one after the other.
-    pub fn of(parts: &[fn(&mut Script<R>)]) -> Page<R::Own> {
-        let mut script = Script {
+/// Without a row.
+impl<R: Rules> Default for Script<R> {
+    fn default() -> Script<R> {
+        Script {
             rows: Vec::new(),
             bench: Bench::default(),
             sort: Sort::Reached,
-        };
+        }
+    }
+}
+
+impl<R: Rules> Script<R> {
+    /// The rows that these parts make, one after the other.
+    pub fn of(parts: &[fn(&mut Script<R>)]) -> Page<R::Own> {
+        let mut script = Script::default();
         for part in parts {
             part(&mut script);
         }
@@ -112,7 +123,15 @@ impl<R: Rules> Script<R> {
             frame,
             line,
             expected: expected.map(str::to_string),
+            count: None,
         });
+    }
+
+    /// The count of the row that was added last.
+    pub fn counts(&mut self, count: u64) {
+        if let Some(row) = self.rows.last_mut() {
+            row.count = Some(count);
+        }
     }
 
     /// These bytes are the sheet or network from now on.

@@ -5,7 +5,9 @@ use Rattle.engine.proofs.event.holds.Statement.{statement}
 use Rattle.engine.proofs.event.holds.Tie as tie
 
 returns : tie.Need-returns
-returns c = rw (eq-eqb (c .before .before .before .before .before .args .at) 0 (c .if1 .taken))
+returns c =
+    let none = eq-eqb (c .before .before .before .before .before .args .at) 0 (c .if1 .taken) in
+    (rw none, rw none)
 
 returns-2 : tie.Need-returns-2
 returns-2 c = rw (ne-eqb (c .before .before .before .before .before .before .args .at) 0 (c .before .if1 .left)) (c .holds-at .ensures)

@@ -10,13 +10,16 @@ returns : tie.Need-returns
 returns c =
     let a = c .before .before .before .before .before .before .args in
     let h = c .before .before .before .before .if1 .taken in
-    let e = c .before .before .broad .ensures .0 in (
-      leads (a .s .now) (a .plan .now) (a .t) (a .main) (a .values .now) (a .variables .now) h,
-      ⊎-elim
-          (λ w. w .1 ∙ no-action (a .s .now) (a .plan .now) (a .t) (a .main) (a .values .now) (a .variables .now) h _ e (w .0 .taken))
-          (λ w. w .9 ∙ action-taken (a .s .now) (a .plan .now) (a .t) (a .main) (a .values .now) (a .variables .now) h _ e (w .0 .left) _ (w .3 .ensures .0) _ (w .4 .ensures) _ (w .7 .ensures .0) _ (w .8 .ensures))
-          (c .before .if2 .came),
-    )
+    let e = c .before .before .broad .ensures .0 in
+    let main = leads (a .s .now) (a .plan .now) (a .t) (a .main) (a .values .now) (a .variables .now) h in
+    ⊎-elim
+    (λ w.
+    let r = no-action (a .s .now) (a .plan .now) (a .t) (a .main) (a .values .now) (a .variables .now) h _ e (w .0 .taken) in
+    (main, w .1 ∙ r .0, w .2 ∙ r .1))
+    (λ w.
+    let r = action-taken (a .s .now) (a .plan .now) (a .t) (a .main) (a .values .now) (a .variables .now) h _ e (w .0 .left) _ (w .3 .ensures .0) _ (w .4 .ensures) _ (w .7 .ensures .0) _ _ (w .8 .ensures) in
+    (main, w .9 ∙ r .0, w .10 ∙ r .1))
+    (c .before .if2 .came)
 
 returns-2 : tie.Need-returns-2
 returns-2 c =
