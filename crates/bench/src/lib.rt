@@ -9,7 +9,7 @@ mod parts;
 mod search;
 
 // A condition, that there is none, or the number of a refusal.
-#[derive(Drop)]
+#[derive(Clone, Copy)]
 pub enum Listed {
     Is,
     Last,
@@ -17,7 +17,7 @@ pub enum Listed {
 }
 
 // The answer, and the condition's bytes with zeros behind them; all zeros where there is none.
-#[derive(Drop)]
+#[derive(Clone, Copy)]
 pub struct Listing {
     pub answer: Listed,
     pub bytes: [u8; 8],

@@ -6,7 +6,7 @@ ghost use Rattle.bench.specs.Walk.{Small, Room, Same, HasRoom, IsSmall, one_cond
 
 // What is still to be written: the parts in order, as digits of base 4 with the first part lowest
 // (1 is a condition, 2 a value, 3 a variable's number), and how many there are of each.
-#[derive(Drop)]
+#[derive(Clone, Copy)]
 pub(crate) struct Pending {
     pub(crate) order: usize,
     pub(crate) conditions: usize,

@@ -8,7 +8,7 @@ use crate::parts;
 use crate::parts::Pending;
 
 // A byte that was found, and what is pending behind it.
-#[derive(Drop)]
+#[derive(Clone, Copy)]
 struct Found {
     is: bool,
     byte: u8,
@@ -16,7 +16,7 @@ struct Found {
 }
 
 // What was found: the next bytes, or that there are none and the given ones.
-#[derive(Drop)]
+#[derive(Clone, Copy)]
 pub(crate) struct Step {
     pub(crate) found: bool,
     pub(crate) bytes: [u8; 8],

@@ -11,7 +11,7 @@ use crate::word::wide;
 use crate::{Lent, VARIABLES, evaluate, front, skip};
 
 // Whether a run is well formed, and how much was evaluated of its values: nothing where it is not.
-#[derive(Drop)]
+#[derive(Clone, Copy)]
 pub(crate) struct Ran {
     pub formed: bool,
     pub count: u32,

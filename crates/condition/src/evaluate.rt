@@ -27,7 +27,7 @@ const CONSTANT: usize = 65541;
 const VARIABLE: usize = 65538;
 
 // The cursor behind an operand, 0 where there is none, and its word.
-#[derive(Drop)]
+#[derive(Clone, Copy)]
 pub(crate) struct Operand {
     pub next: usize,
     pub word: u32,

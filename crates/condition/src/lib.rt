@@ -24,51 +24,51 @@ pub const VARIABLES: usize = 4;
 
 // How many values are lent of each kind: present program values, monitor variables, program values
 // kept at entry.
-#[derive(Drop)]
+#[derive(Clone, Copy)]
 pub struct Lent {
     pub programs: usize,
     pub monitors: usize,
     pub kept: usize,
 }
 
-#[derive(Drop)]
+#[derive(Clone, Copy)]
 pub enum ConditionAnswer {
     Is(bool),
     Refused(u8),
 }
 
-#[derive(Drop)]
+#[derive(Clone, Copy)]
 pub enum ValueAnswer {
     Is(u32),
     Refused(u8),
 }
 
-#[derive(Drop)]
+#[derive(Clone, Copy)]
 pub enum ActionAnswer {
     Done,
     Refused(u8),
 }
 
 // An answer, and how many operators and operands were evaluated for it: none where it is a refusal.
-#[derive(Drop)]
+#[derive(Clone, Copy)]
 pub struct CountedCondition {
     pub answer: ConditionAnswer,
     pub count: u32,
 }
 
-#[derive(Drop)]
+#[derive(Clone, Copy)]
 pub struct CountedValue {
     pub answer: ValueAnswer,
     pub count: u32,
 }
 
-#[derive(Drop)]
+#[derive(Clone, Copy)]
 pub struct Held {
     pub holds: bool,
     pub count: u32,
 }
 
-#[derive(Drop)]
+#[derive(Clone, Copy)]
 pub struct Performed {
     pub answer: ActionAnswer,
     pub variables: [u32; VARIABLES],

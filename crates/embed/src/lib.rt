@@ -14,7 +14,7 @@ use step::{Cause, RunAnswer};
 use translation::Translated;
 
 // An answer as five numbers.
-#[derive(Drop)]
+#[derive(Clone, Copy)]
 struct Numbers {
     code: u32,
     first: u32,

@@ -16,35 +16,35 @@ use step::{ARMED, VALUES};
 const MOST_ARMED: u32 = ARMED as u32;
 
 // The unit of an exit's call, and where its words begin.
-#[derive(Drop)]
+#[derive(Clone, Copy)]
 pub(crate) struct Leaving {
     pub unit: u8,
     pub place: usize,
 }
 
 // What an event leaves beside the calls and variables, and how much was evaluated.
-#[derive(Drop)]
+#[derive(Clone, Copy)]
 pub(crate) struct Taken {
     pub run: Running,
     pub count: u32,
 }
 
 // The transition that is found, or 96, and how much was evaluated until it was.
-#[derive(Drop)]
+#[derive(Clone, Copy)]
 struct Found {
     transition: usize,
     count: u32,
 }
 
 // The main state behind a transition, and how much of its action was evaluated.
-#[derive(Drop)]
+#[derive(Clone, Copy)]
 struct Led {
     main: u8,
     count: u32,
 }
 
 // The lowest number that fails, or 256, and how much was evaluated to judge all of them.
-#[derive(Drop)]
+#[derive(Clone, Copy)]
 struct Lowest {
     number: u16,
     count: u32,

@@ -34,7 +34,7 @@ pub const ABSENT: u16 = 1000;
 const MOST_OPENED: u8 = CALLS as u8;
 
 // What a state has beside its calls and its variables.
-#[derive(Drop)]
+#[derive(Clone, Copy)]
 pub struct Running {
     pub main: u8,
     pub opened: u8,
@@ -43,7 +43,7 @@ pub struct Running {
 }
 
 // An event, and how many values come with it.
-#[derive(Drop)]
+#[derive(Clone, Copy)]
 pub struct Given {
     pub kind: u8,
     pub unit: u8,
@@ -53,7 +53,7 @@ pub struct Given {
 
 // What an event comes to: 0 where it is taken, or the refusal's number; how much was evaluated; and
 // what is beside the calls and variables.
-#[derive(Drop)]
+#[derive(Clone, Copy)]
 pub struct Advanced {
     pub answer: u8,
     pub count: u32,

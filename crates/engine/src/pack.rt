@@ -11,7 +11,7 @@ use sheet::Record;
 use step::{ARMED, CALLS, Call};
 
 // What is armed for a call: the first `count` of four numbers.
-#[derive(Drop)]
+#[derive(Clone, Copy)]
 pub struct Arms {
     pub count: u8,
     pub numbers: [u8; ARMED],

@@ -18,14 +18,14 @@ mod pack;
 mod sound;
 
 // The triples armed for an open call: the first `count` of four numbers.
-#[derive(Drop)]
+#[derive(Clone, Copy)]
 pub struct Arms {
     pub count: u8,
     pub triples: [u8; WatchState::ARMED],
 }
 
 // A state of the monitor. The first `opened` calls are open, with what is armed for each beside it.
-#[derive(Drop)]
+#[derive(Clone, Copy)]
 pub struct WatchState {
     pub main: u8,
     pub variables: [u32; WatchState::VARIABLES],
@@ -37,14 +37,14 @@ pub struct WatchState {
 }
 
 // What making a fresh state answers: what reading the sheet answers, and the state.
-#[derive(Drop)]
+#[derive(Clone, Copy)]
 pub struct Fresh {
     pub reading: Reading,
     pub state: WatchState,
 }
 
 // What offering an event answers, how much was evaluated, and the state that comes back.
-#[derive(Drop)]
+#[derive(Clone, Copy)]
 pub struct Offered {
     pub answer: Answer,
     pub count: u32,

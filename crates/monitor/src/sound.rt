@@ -21,14 +21,14 @@ use step::Call;
 const TRIPLES: usize = 32;
 
 // The states and units of a sheet's triples, by their numbers, with zeros behind them.
-#[derive(Drop)]
+#[derive(Clone, Copy)]
 pub struct Owners {
     pub states: [u8; TRIPLES],
     pub units: [u8; TRIPLES],
 }
 
 // The numbers of an accepted sheet's header, and where its triples begin.
-#[derive(Drop)]
+#[derive(Clone, Copy)]
 pub struct Tables {
     pub header: Header,
     pub triples: u16,

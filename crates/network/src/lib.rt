@@ -20,7 +20,7 @@ mod sound;
 
 // A living checker: the number of the open call that it is bound to, its template, and the position of
 // the call's entry.
-#[derive(Drop)]
+#[derive(Clone, Copy)]
 pub struct Checker {
     pub number: u16,
     pub template: u8,
@@ -28,7 +28,7 @@ pub struct Checker {
 }
 
 // A state of the network. The first `opened` calls are open, the first `living` checkers live.
-#[derive(Drop)]
+#[derive(Clone, Copy)]
 pub struct NetworkState {
     pub main: u8,
     pub variables: [u32; NetworkState::VARIABLES],
@@ -41,14 +41,14 @@ pub struct NetworkState {
 }
 
 // What making a fresh state answers: what reading the network answers, and the state.
-#[derive(Drop)]
+#[derive(Clone, Copy)]
 pub struct Fresh {
     pub reading: Reading,
     pub state: NetworkState,
 }
 
 // What offering an event answers, how much was evaluated, and the state that comes back.
-#[derive(Drop)]
+#[derive(Clone, Copy)]
 pub struct Offered {
     pub answer: Answer,
     pub count: u32,

@@ -20,7 +20,7 @@ use step::{ARMED, Call};
 const TEMPLATES: usize = 32;
 
 // The numbers of an accepted network's header, and where its templates begin.
-#[derive(Drop)]
+#[derive(Clone, Copy)]
 pub struct Tables {
     pub header: Header,
     pub templates: u16,

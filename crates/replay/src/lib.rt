@@ -16,14 +16,14 @@ use step::Answer;
 use translation::Translated;
 
 // What replaying answers: how many records were offered, or the refusal.
-#[derive(Drop)]
+#[derive(Clone, Copy)]
 pub enum ReplayAnswer {
     Offered(u32),
     Refused(u8),
 }
 
 // The answer, and the state after the last record.
-#[derive(Drop)]
+#[derive(Clone, Copy)]
 pub struct Replayed {
     pub answer: ReplayAnswer,
     pub state: NetworkState,

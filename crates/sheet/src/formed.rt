@@ -45,7 +45,7 @@ pub(crate) fn actions_formed(s: &[u8], at: usize, n: usize, lent: Lent) -> bool
 // Whether none of n texts is an action with a value-at-entry.
 pub(crate) fn actions_free(s: &[u8], at: usize, n: usize, lent: Lent) -> bool
     requires { (at ≤ 100000000) × (n ≤ 255) }
-    ensures* { λ r. ⌜ r ≡ every (λ a. not (action_which (λ r. action_names r is_at_entry) lent a)) (table (text_form false) n s.now at) ⌝ }
+    ensures { result ≡ every (λ a. not (action_which (λ r. action_names r is_at_entry) lent a)) (table (text_form false) n s.now at) }
 {
     let mut ok = true;
     let mut place = at;

@@ -22,14 +22,14 @@ mod spread;
 mod walk;
 
 // What reading a sheet or a network answers.
-#[derive(Drop)]
+#[derive(Clone, Copy)]
 pub enum Reading {
     Accepted,
     Refused(u8),
 }
 
 // How many states, units, conditions and actions there are.
-#[derive(Drop)]
+#[derive(Clone, Copy)]
 pub struct Counts {
     pub states: u8,
     pub units: u8,
@@ -38,7 +38,7 @@ pub struct Counts {
 }
 
 // The numbers of a header. `last` counts triples or templates.
-#[derive(Drop)]
+#[derive(Clone, Copy)]
 pub struct Header {
     pub states: u8,
     pub units: u8,
@@ -54,7 +54,7 @@ pub struct Header {
 
 // Where each condition and action begins, with its length byte, and where the transitions and the
 // last table begin.
-#[derive(Drop)]
+#[derive(Clone, Copy)]
 pub struct Places {
     pub conditions: [u32; 161],
     pub actions: [u32; 161],
@@ -62,7 +62,7 @@ pub struct Places {
     pub last: u32,
 }
 
-#[derive(Drop)]
+#[derive(Clone, Copy)]
 pub struct Transition {
     pub from: u8,
     pub kind: u8,
@@ -72,7 +72,7 @@ pub struct Transition {
     pub to: u8,
 }
 
-#[derive(Drop)]
+#[derive(Clone, Copy)]
 pub struct Triple {
     pub state: u8,
     pub unit: u8,
@@ -80,27 +80,27 @@ pub struct Triple {
     pub postcondition: u8,
 }
 
-#[derive(Drop)]
+#[derive(Clone, Copy)]
 pub struct Pair {
     pub condition: u8,
     pub template: u8,
 }
 
-#[derive(Drop)]
+#[derive(Clone, Copy)]
 pub struct Template {
     pub unit: u8,
     pub postcondition: u8,
 }
 
 // What reading a log answers: how many records it has, or the refusal.
-#[derive(Drop)]
+#[derive(Clone, Copy)]
 pub enum LogReading {
     Records(usize),
     Refused(u8),
 }
 
 // A record of a log without its values.
-#[derive(Drop)]
+#[derive(Clone, Copy)]
 pub struct Record {
     pub kind: u8,
     pub unit: u8,

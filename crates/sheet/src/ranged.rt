@@ -77,7 +77,7 @@ pub(crate) fn triples_ranged(s: &[u8], at: usize, n: usize, counts: Counts) -> b
 
 // Whether templates have their numbers in range, and the unit of each. A pair names its template by number, and is
 // judged by that unit: no place is found from a number.
-#[derive(Drop)]
+#[derive(Clone, Copy)]
 pub(crate) struct Templates {
     pub ok: bool,
     pub units: [u8; 32],

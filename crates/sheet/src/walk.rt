@@ -9,13 +9,13 @@ use crate::bytes::{four_times, has_wide, lead, number, paired_size, said, twice}
 use crate::head::between;
 
 // Whether the length bytes of a table are in range, and where it ends.
-#[derive(Drop)]
+#[derive(Clone, Copy)]
 pub(crate) struct Walk {
     pub ok: bool,
     pub end: usize,
 }
 
-#[derive(Drop)]
+#[derive(Clone, Copy)]
 pub(crate) struct Tables {
     pub conditions: usize,
     pub actions: usize,
@@ -67,7 +67,7 @@ fn walk_paired(s: &[u8], at: usize, n: usize) -> Walk
 }
 
 // What the tables of conditions and actions come to, in both layouts.
-#[derive(Drop)]
+#[derive(Clone, Copy)]
 struct Texts {
     conditions: usize,
     actions: usize,

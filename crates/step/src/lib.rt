@@ -15,7 +15,7 @@ pub const VALUES: usize = 8;
 pub const ARMED: usize = 4;
 
 // Why a verdict is complete: the bad state, the lowest failing triple, or both.
-#[derive(Drop)]
+#[derive(Clone, Copy)]
 pub enum Cause {
     BadState(u8),
     Triple(u8),
@@ -24,7 +24,7 @@ pub enum Cause {
 
 // A verdict: the position of the event that completed it, its cause, and the position of the entry of
 // the call that broke the triple, 0 without one.
-#[derive(Drop)]
+#[derive(Clone, Copy)]
 pub struct Verdict {
     pub position: u32,
     pub cause: Cause,
@@ -32,14 +32,14 @@ pub struct Verdict {
 }
 
 // Whether there is a verdict.
-#[derive(Drop)]
+#[derive(Clone, Copy)]
 pub enum Outcome {
     Open,
     Judged(Verdict),
 }
 
 // What offering an event answers.
-#[derive(Drop)]
+#[derive(Clone, Copy)]
 pub enum Answer {
     Taken,
     Refused(u8),
@@ -47,7 +47,7 @@ pub enum Answer {
 
 // What running a log answers: the verdict; or how many events there were, the main state and how
 // many calls are open; or a refusal; or that of an event, and its record.
-#[derive(Drop)]
+#[derive(Clone, Copy)]
 pub enum RunAnswer {
     Violated(Verdict),
     Clean(u32, u8, u8),
@@ -56,14 +56,14 @@ pub enum RunAnswer {
 }
 
 // What running a log answers, and how much was evaluated in all its events.
-#[derive(Drop)]
+#[derive(Clone, Copy)]
 pub struct Counted {
     pub answer: RunAnswer,
     pub count: u64,
 }
 
 // An open call: its number, its unit, the position of its entry, and the values kept there.
-#[derive(Drop)]
+#[derive(Clone, Copy)]
 pub struct Call {
     pub number: u16,
     pub unit: u8,

@@ -9,7 +9,7 @@ mod card;
 mod write;
 
 // What translating answers: how many bytes the network has, or the refusal.
-#[derive(Drop)]
+#[derive(Clone, Copy)]
 pub enum Translated {
     Written(usize),
     Refused(u8),

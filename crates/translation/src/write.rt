@@ -14,7 +14,7 @@ use sheet::{Header, Transition};
 
 // Where a sheet's triples begin, and how many there are; the numbers of the added condition and
 // action.
-#[derive(Drop)]
+#[derive(Clone, Copy)]
 pub struct Frame {
     pub triples: u32,
     pub count: u8,
@@ -23,14 +23,14 @@ pub struct Frame {
 }
 
 // The next place, and how many transitions have been added.
-#[derive(Drop)]
+#[derive(Clone, Copy)]
 pub struct Spot {
     pub at: usize,
     pub added: usize,
 }
 
 // The next place of the sheet, and that of the network.
-#[derive(Drop)]
+#[derive(Clone, Copy)]
 pub struct Both {
     pub from: u32,
     pub at: usize,

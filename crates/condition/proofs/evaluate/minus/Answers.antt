@@ -1,0 +1,6 @@
+-- `evaluate::minus` meets its contract. Assumes nothing.
+use Rattle.std.proofs.Common.{rules}
+use Rattle.condition.proofs.evaluate.minus.Goals as goal
+
+pub returns : goal.returns
+returns c = rw c.minus.ensures at c.packed.ensures

@@ -1,0 +1,9 @@
+-- `word::plus` meets its contract. Assumes nothing.
+use Rattle.std.proofs.Common.{ℤ, sym, ap, ◌∙◌, rules}
+use Rattle.condition.specs.Word.{unsigned, clamp, plus_word}
+use Rattle.condition.proofs.Ends.{plus_raised}
+use Rattle.condition.proofs.word.plus.Goals as goal
+
+pub returns : goal.returns
+unfolding plus_word
+returns c = rw (c.raised-2.ensures.0, c.raised.ensures.0) at c.clamped.ensures ∙ ap (λ (z : ℤ). unsigned (clamp z)) (sym (plus_raised _ _ c.ranges.a.fits c.ranges.b.fits))
