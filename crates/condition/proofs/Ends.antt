@@ -2,7 +2,7 @@
 use Rattle.std.proofs.Common.{◌≡◌, ℕ, zero, suc, ◌+◌, ◌-◌, ◌%◌, ◌^◌, ◌<◌, ◌≤◌, Bool, true, false, cond, not, T, ltb, ℤ, pos, negsuc, ◌+ℤ◌, ◌-ℤ◌, neg_ℤ, ◌≤ℤ◌, ◌<ℤ◌, sym, refl, ap, ◌∙◌, subst, ap₂, arith, le→leb, lt→ltb, leb→le, ltb-false, ltb-true, le-ltb, lt-ltb}
 use native.Mathlib.Nat.{add-mod}
 use lib.IntN.{sub_ℕ}
-use lib.Signed.{lt_z, le_z, lt_z_yes, lt_z_no, le_z_yes, clash_ℤ, ≤ℤ_refl}
+use lib.Signed.{lt_z, lt_z_yes, lt_z_no, le_z_yes, clash_ℤ, ≤ℤ_refl}
 use Rattle.condition.specs.Word.{signed, unsigned, low_end, high_end, clamp, difference, plus_word, minus_word, Between, Stops, PlusStops, MinusStops}
 
 -- The difference of two natural numbers as a whole number.

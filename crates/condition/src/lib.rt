@@ -1,6 +1,7 @@
 // Conditions, values and actions over operator-first bytes: judging them, evaluating them, carrying
 // actions out, and counting what is evaluated. Every operation here answers for all bytes and all lent
 // values.
+#![tactic(auto)]
 
 ghost use Rattle.std.specs.Prelude.{◌≡◌, ◌/◌, ◌%◌, true, [], take, ◌==◌};
 ghost use Rattle.condition.specs.Tree.{condition_names, action_names, is_monitor, is_at_entry};

@@ -1,5 +1,5 @@
 -- `action_has_entry` meets its contract. Assumes nothing.
-use Rattle.std.proofs.Common.{true, sym, ◌∙◌, rules}
+use Rattle.std.proofs.Common.{true, sym, ◌∙◌}
 use Rattle.condition.specs.Answer.{action_which}
 use Rattle.condition.proofs.Answering.{run_has_entry, none_named, some_named}
 use Rattle.condition.proofs.action_has_entry.Goals as goal

@@ -1,5 +1,5 @@
 -- `condition_has_monitor` meets its contract. Assumes nothing.
-use Rattle.std.proofs.Common.{true, sym, ◌∙◌, rules}
+use Rattle.std.proofs.Common.{true, sym, ◌∙◌}
 use Rattle.condition.specs.Answer.{condition_which}
 use Rattle.condition.proofs.Answering.{has_monitor, none_named, some_named}
 use Rattle.condition.proofs.condition_has_monitor.Goals as goal

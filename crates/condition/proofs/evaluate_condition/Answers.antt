@@ -1,5 +1,4 @@
 -- `evaluate_condition` meets its contract. Assumes nothing.
-use Rattle.std.proofs.Common.{rules}
 use Rattle.condition.specs.Walk.{banks}
 use Rattle.condition.proofs.Answering.{walkable, condition_length, condition_answer, condition_malformed}
 use Rattle.condition.proofs.evaluate_condition.Goals as goal

@@ -1,5 +1,4 @@
 -- `evaluate_value` meets its contract. Assumes nothing.
-use Rattle.std.proofs.Common.{rules}
 use Rattle.condition.specs.Walk.{banks}
 use Rattle.condition.proofs.Answering.{walkable, value_length, value_answer, value_malformed}
 use Rattle.condition.proofs.evaluate_value.Goals as goal

@@ -1,5 +1,4 @@
 -- `found_at` meets its contract. Assumes nothing.
-use Rattle.std.proofs.Common.{arith, rules}
 use Rattle.condition.specs.Walk.{banks}
 use Rattle.condition.proofs.Answering.{rest_all, place_past, place_long, place_answer, place_malformed}
 use Rattle.condition.proofs.found_at.Goals as goal

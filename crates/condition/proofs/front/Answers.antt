@@ -1,5 +1,5 @@
 -- `front` meets its contract. Assumes nothing.
-use Rattle.std.proofs.Common.{sym, arith, length-take-le, take_all, rules}
+use Rattle.std.proofs.Common.{sym, arith, length-take-le, take_all}
 use Rattle.condition.proofs.front.Goals as goal
 
 pub slice_bounds-result-end : goal.slice_bounds-result-end

@@ -1,5 +1,5 @@
 -- `is_action` meets its contract. Assumes nothing.
-use Rattle.std.proofs.Common.{◌∙◌, rules}
+use Rattle.std.proofs.Common.{◌∙◌}
 use Rattle.condition.proofs.Answering.{run_long, run_judged}
 use Rattle.condition.proofs.is_action.Goals as goal
 

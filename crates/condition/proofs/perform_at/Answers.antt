@@ -1,5 +1,5 @@
 -- `perform_at` meets its contract. Assumes nothing.
-use Rattle.std.proofs.Common.{ap, ◌∙◌, rules}
+use Rattle.std.proofs.Common.{ap, ◌∙◌}
 use Rattle.condition.specs.Answer.{performed_on}
 use Rattle.condition.proofs.Answering.{action_refused, action_performed}
 use Rattle.condition.proofs.perform_at.Goals as goal

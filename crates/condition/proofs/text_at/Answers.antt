@@ -1,5 +1,5 @@
 -- `text_at` meets its contract. Assumes nothing.
-use Rattle.std.proofs.Common.{◌+◌, length, get_or, drop, sym, ap, ◌∙◌, arith, length-drop, drop_of_length-le, length-take-le, take_all, rules}
+use Rattle.std.proofs.Common.{◌+◌, length, get_or, drop, sym, ap, ◌∙◌, arith, length-drop, drop_of_length-le, length-take-le, take_all}
 use lib.Seq.{take-nil}
 use Rattle.condition.proofs.Answering.{rest_all}
 use Rattle.condition.proofs.text_at.Goals as goal

@@ -1,5 +1,5 @@
 -- `action::assign` meets its contract. Assumes nothing.
-use Rattle.std.proofs.Common.{arith, rules}
+use Rattle.std.proofs.Common.{arith}
 use Rattle.condition.proofs.Running.{assigns_front, assigns_past}
 use Rattle.condition.proofs.action.assign.Goals as goal
 

@@ -1,7 +1,6 @@
 -- `action::is_run` meets its contract. Assumes nothing.
-use Rattle.std.proofs.Common.{◌+◌, ◌-◌, length, arith}
-use Rattle.condition.specs.Parse.{parse_action}
-use Rattle.condition.proofs.Running.{Left, left_all, any_run, judged_next, judged_end}
+use Rattle.std.proofs.Common.{arith}
+use Rattle.condition.proofs.Running.{left_all, any_run, judged_next, judged_end}
 use Rattle.condition.proofs.action.is_run.Goals as goal
 
 pub loop-at-init : goal.loop-at-init

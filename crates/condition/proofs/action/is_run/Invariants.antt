@@ -1,7 +1,7 @@
 -- `action::is_run` meets its contract. Assumes nothing.
-use Rattle.std.proofs.Common.{◌+◌, ◌-◌, length, arith}
+use Rattle.std.proofs.Common.{◌+◌, ◌-◌, length}
 use Rattle.condition.specs.Parse.{parse_action}
-use Rattle.condition.proofs.Running.{Left, left_all, any_run, judged_next, judged_end}
+use Rattle.condition.proofs.Running.{Left, any_run}
 use Rattle.condition.proofs.action.is_run.Given as goal
 
 abbrev pub invariant-loop-at : goal.invariant-loop-at

@@ -1,6 +1,6 @@
 -- `action::run` meets its contract. Assumes nothing.
-use Rattle.std.proofs.Common.{◌+◌, ◌-◌, ◌/◌, ◌%◌, length, arith, rules}
-use Rattle.condition.proofs.Running.{Carried, carried_start, carried_next, carried_end, carried_bad}
+use Rattle.std.proofs.Common.{◌+◌, ◌-◌, ◌/◌, ◌%◌, length}
+use Rattle.condition.proofs.Running.{Carried}
 use Rattle.condition.proofs.action.run.Given as goal
 
 abbrev pub invariant-loop-c : goal.invariant-loop-c

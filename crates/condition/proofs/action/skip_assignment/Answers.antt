@@ -1,5 +1,4 @@
 -- `action::skip_assignment` meets its contract. Assumes nothing.
-use Rattle.std.proofs.Common.{rules}
 use Rattle.condition.proofs.Running.{skips_assignment, skips_unlent}
 use Rattle.condition.proofs.action.skip_assignment.Goals as goal
 

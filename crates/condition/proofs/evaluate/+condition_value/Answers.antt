@@ -1,6 +1,6 @@
 -- The cycle of `evaluate::condition` and `evaluate::value` meets its contracts: the remaining length falls at each call, and each
 -- operator's arm is a law of Evaluating. Assumes nothing.
-use Rattle.std.proofs.Common.{ℕ, ◌-◌, ◌%◌, ◌<◌, length, arith, rules}
+use Rattle.std.proofs.Common.{arith, rules}
 use Rattle.condition.proofs.Walking.{no_condition_lem}
 use Rattle.condition.proofs.Evaluating.{as_judged, as_packed, started, badly, condition_past, value_past, true_at, evaluates_not, and_right, and_left, or_right, or_left, evaluates_less, evaluates_equal, evaluates_within, no_condition_there, evaluates_plus, evaluates_minus, choose_left, choose_right, operand, sub_condition}
 use Rattle.condition.proofs.evaluate.+condition_value.Goals as goal

@@ -1,6 +1,5 @@
 -- `evaluate::equal` meets its contract. Assumes nothing.
 use Rattle.condition.specs.Word.{equal_word}
-use Rattle.std.proofs.Common.{rules}
 use Rattle.condition.proofs.evaluate.equal.Goals as goal
 
 pub returns : goal.returns

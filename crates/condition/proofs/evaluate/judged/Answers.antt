@@ -1,5 +1,5 @@
 -- `evaluate::judged` meets its contract. Assumes nothing.
-use Rattle.std.proofs.Common.{arith, rules}
+use Rattle.std.proofs.Common.{arith}
 use Rattle.condition.proofs.evaluate.judged.Goals as goal
 
 pub returns-then-holds : goal.returns-then-holds

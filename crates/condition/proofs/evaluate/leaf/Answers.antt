@@ -1,5 +1,5 @@
 -- `evaluate::leaf` meets its contract. Assumes nothing.
-use Rattle.std.proofs.Common.{arith, rules}
+use Rattle.std.proofs.Common.{arith}
 use Rattle.condition.proofs.Evaluating.{leaf_short, leaf_none, leaf_literal, leaf_variable}
 use Rattle.condition.proofs.evaluate.leaf.Goals as goal
 

@@ -1,5 +1,4 @@
 -- `evaluate::literal` meets its contract. Assumes nothing.
-use Rattle.std.proofs.Common.{rules}
 use Rattle.condition.proofs.Evaluating.{literal_found}
 use Rattle.condition.proofs.evaluate.literal.Goals as goal
 

@@ -1,5 +1,4 @@
 -- `evaluate::minus` meets its contract. Assumes nothing.
-use Rattle.std.proofs.Common.{rules}
 use Rattle.condition.proofs.evaluate.minus.Goals as goal
 
 pub returns : goal.returns

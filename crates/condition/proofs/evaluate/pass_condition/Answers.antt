@@ -1,6 +1,5 @@
 -- `evaluate::pass_condition` meets its contract. Assumes nothing.
 use Rattle.condition.specs.Walk.{banks}
-use Rattle.std.proofs.Common.{rules}
 use Rattle.condition.proofs.Evaluating.{passes}
 use Rattle.condition.proofs.evaluate.pass_condition.Goals as goal
 

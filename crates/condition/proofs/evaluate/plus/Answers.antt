@@ -1,5 +1,4 @@
 -- `evaluate::plus` meets its contract. Assumes nothing.
-use Rattle.std.proofs.Common.{rules}
 use Rattle.condition.proofs.evaluate.plus.Goals as goal
 
 pub returns : goal.returns

@@ -1,5 +1,5 @@
 -- `evaluate::simple` meets its contract. Assumes nothing.
-use Rattle.std.proofs.Common.{arith, rules}
+use Rattle.std.proofs.Common.{arith}
 use Rattle.condition.proofs.Walking.{tried_none}
 use Rattle.condition.proofs.Evaluating.{as_simple, started, evaluates_less, evaluates_equal}
 use Rattle.condition.proofs.evaluate.simple.Goals as goal

@@ -1,5 +1,5 @@
 -- `evaluate::variable` meets its contract. Assumes nothing.
-use Rattle.std.proofs.Common.{refl, rules}
+use Rattle.std.proofs.Common.{refl}
 use Rattle.condition.proofs.Evaluating.{variable_found, variable_none}
 use Rattle.condition.proofs.evaluate.variable.Goals as goal
 

@@ -1,5 +1,4 @@
 -- `evaluate::within` meets its contract. Assumes nothing.
-use Rattle.std.proofs.Common.{rules}
 use Rattle.condition.proofs.evaluate.within.Goals as goal
 
 pub returns : goal.returns

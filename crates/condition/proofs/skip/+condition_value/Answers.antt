@@ -1,6 +1,6 @@
 -- The cycle of `skip::condition` and `skip::value` meets its contracts: the remaining length falls at each call, and each operator's
 -- arm is a law of Walking. Assumes nothing.
-use Rattle.std.proofs.Common.{ℕ, ◌-◌, ◌<◌, length, ⊎_elim, arith, rules}
+use Rattle.std.proofs.Common.{arith}
 use Rattle.condition.proofs.Walking.{condition_nil, value_nil, skips_past, skips_true, skips_not, skips_and, skips_or, skips_compared, skips_within, skips_joined, skips_choose, skips_no_condition, no_condition_lem, operand}
 use Rattle.condition.specs.Tree.{Condition, Value}
 use Rattle.condition.specs.Walk.{condition_reader, value_reader}

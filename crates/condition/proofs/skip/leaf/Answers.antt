@@ -1,5 +1,5 @@
 -- `skip::leaf` meets its contract. Assumes nothing.
-use Rattle.std.proofs.Common.{refl, arith, rules}
+use Rattle.std.proofs.Common.{refl, arith}
 use Rattle.condition.proofs.Walking.{leaf_short, leaf_none, as_leaf, skips_literal, skips_program, skips_monitor, skips_entry}
 use Rattle.condition.proofs.skip.leaf.Goals as goal
 

@@ -1,5 +1,5 @@
 -- `skip::literal` meets its contract. Assumes nothing.
-use Rattle.std.proofs.Common.{refl, arith, rules, le-leb}
+use Rattle.std.proofs.Common.{refl, arith, le-leb}
 use borrow.Author.Tests.{lt-leb}
 use Rattle.condition.proofs.Walking.{tried, tried_none}
 use Rattle.condition.proofs.skip.literal.Goals as goal

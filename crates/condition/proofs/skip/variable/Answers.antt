@@ -1,5 +1,5 @@
 -- `skip::variable` meets its contract. Assumes nothing.
-use Rattle.std.proofs.Common.{refl, arith, rules, le-ltb, lt-ltb}
+use Rattle.std.proofs.Common.{refl, arith, le-ltb, lt-ltb}
 use Rattle.condition.proofs.Walking.{tried, tried_none}
 use Rattle.condition.proofs.skip.variable.Goals as goal
 

@@ -1,5 +1,5 @@
 -- `word::big_endian` meets its contract. Assumes nothing.
-use Rattle.std.proofs.Common.{arith, rules}
+use Rattle.std.proofs.Common.{arith}
 use Rattle.condition.specs.Word.{big_endian}
 use Rattle.condition.proofs.word.big_endian.Goals as goal
 

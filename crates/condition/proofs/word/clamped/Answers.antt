@@ -1,5 +1,5 @@
 -- `word::clamped` meets its contract. Assumes nothing.
-use Rattle.std.proofs.Common.{sym, rules}
+use Rattle.std.proofs.Common.{sym}
 use Rattle.condition.proofs.Ends.{clamped_low, clamped_between, clamped_high}
 use Rattle.condition.proofs.word.clamped.Goals as goal
 

@@ -1,6 +1,5 @@
 -- `word::less` meets its contract. Assumes nothing.
 use Rattle.condition.proofs.Words.{less_moved}
-use Rattle.std.proofs.Common.{rules}
 use Rattle.condition.proofs.word.less.Goals as goal
 
 pub returns : goal.returns

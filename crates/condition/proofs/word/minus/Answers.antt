@@ -1,5 +1,5 @@
 -- `word::minus` meets its contract. Assumes nothing.
-use Rattle.std.proofs.Common.{ℤ, sym, ap, ◌∙◌, rules}
+use Rattle.std.proofs.Common.{ℤ, sym, ap, ◌∙◌}
 use Rattle.condition.specs.Word.{unsigned, clamp, minus_word}
 use Rattle.condition.proofs.Ends.{minus_raised}
 use Rattle.condition.proofs.word.minus.Goals as goal

@@ -1,5 +1,5 @@
 -- `word::plus` meets its contract. Assumes nothing.
-use Rattle.std.proofs.Common.{ℤ, sym, ap, ◌∙◌, rules}
+use Rattle.std.proofs.Common.{ℤ, sym, ap, ◌∙◌}
 use Rattle.condition.specs.Word.{unsigned, clamp, plus_word}
 use Rattle.condition.proofs.Ends.{plus_raised}
 use Rattle.condition.proofs.word.plus.Goals as goal
