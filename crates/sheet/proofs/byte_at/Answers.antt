@@ -1,0 +1,6 @@
+-- `byte_at` meets its contract. Assumes nothing.
+use borrow.Author.Rules.{rules}
+use Rattle.sheet.proofs.byte_at.Goals as goal
+
+pub returns : goal.returns
+returns c = rw c.place.ensures.0 at c.byte.ensures

@@ -1,0 +1,5 @@
+use borrow.Author.Rules.{rules}
+use Rattle.sheet.proofs.head.counts_hold.Goals as goal
+
+pub returns : goal.returns
+returns c = cc

@@ -1,0 +1,6 @@
+-- `head::is_bad` meets its contract. Assumes nothing.
+use borrow.Author.Rules.{rules}
+use Rattle.sheet.proofs.head.is_bad.Goals as goal
+
+pub returns : goal.returns
+returns c = cc

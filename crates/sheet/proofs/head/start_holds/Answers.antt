@@ -1,0 +1,5 @@
+use borrow.Author.Rules.{rules}
+use Rattle.sheet.proofs.head.start_holds.Goals as goal
+
+pub returns : goal.returns
+returns c = cc

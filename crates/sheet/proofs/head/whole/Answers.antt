@@ -1,0 +1,7 @@
+use Rattle.sheet.specs.Reading.{whole}
+use borrow.Author.Rules.{rules}
+use Rattle.sheet.proofs.head.whole.Goals as goal
+
+pub returns : goal.returns
+unfolding whole
+returns c = cc

@@ -1,0 +1,15 @@
+-- `ranged::one_paired_ranged` meets its contract. Assumes nothing.
+use mathlib.Core.Path.{ap₂, ◌∙◌}
+use mathlib.Core.Bool.{◌&&◌}
+use Rattle.sheet.specs.Table.{every}
+use Rattle.sheet.specs.Reading.{transition_ranged}
+use Rattle.sheet.specs.Walk.{pair_fits}
+use Rattle.sheet.proofs.Readers.Found.{paired_value}
+use borrow.Author.Rules.{rules}
+use Rattle.sheet.proofs.ranged.one_paired_ranged.Goals as goal
+
+pub returns : goal.returns
+returns c =
+    let a = c.args in
+    ap₂ ◌&&◌ c.transition_ranged.ensures c.pairs_ranged.ensures
+    ∙ paired_value (λ t ps. transition_ranged a.counts t && every (pair_fits a.counts a.units.now t) ps) a.s.now a.at _ _ c.transition-t.ensures c.requires.1

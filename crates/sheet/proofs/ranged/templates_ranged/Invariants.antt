@@ -1,0 +1,11 @@
+-- `ranged::templates_ranged` meets its contract. Assumes nothing.
+use borrow.Author.Rules.{rules}
+use Prim.Native.Nat.{◌-◌}
+use Rattle.sheet.proofs.Readers.Units.{Judging, judging_start, judging_next, judging_end}
+use Rattle.sheet.proofs.ranged.templates_ranged.Given as goal
+
+abbrev pub invariant-loop-i : goal.invariant-loop-i
+invariant-loop-i l = Judging l.counts l.n l.s l.at l.ok l.units l.here l.i
+
+abbrev pub decreases-loop-i : goal.decreases-loop-i
+decreases-loop-i l = l.n - l.i

@@ -1,0 +1,22 @@
+-- `ranged::transitions_ranged` meets its contract. Assumes nothing.
+use mathlib.Core.Path.{refl, ap, ◌∙◌}
+use borrow.Author.Rules.{rules}
+use native.Mathlib.Omega.{arith}
+use Rattle.sheet.specs.Decode.{transition_form}
+use Rattle.sheet.specs.Reading.{transition_ranged}
+use Rattle.sheet.proofs.Readers.Loops.{Going, going_start, going_tested, sized_next}
+use Rattle.sheet.proofs.ranged.transitions_ranged.Goals as goal
+
+pub loop-left-init : goal.loop-left-init
+loop-left-init c = going_start _ _ _ _ _ _
+
+pub loop-left-preserved : goal.loop-left-preserved
+loop-left-preserved c =
+    sized_next _ _ _ _ _ _ _ _ _ c.loop-left.invariant c.loop-left-test.true _
+    (c.transition_ranged-ok.ensures ∙ ap (transition_ranged _) c.transition.ensures)
+    6
+    (refl)
+    (omega arith)
+
+pub returns : goal.returns
+returns c = going_tested _ _ _ _ _ _ _ _ _ c.loop-left.invariant c.loop-left-test.false

@@ -1,0 +1,22 @@
+-- `ranged::triples_ranged` meets its contract. Assumes nothing.
+use mathlib.Core.Path.{refl, ap, ◌∙◌}
+use borrow.Author.Rules.{rules}
+use native.Mathlib.Omega.{arith}
+use Rattle.sheet.specs.Decode.{triple_form}
+use Rattle.sheet.specs.Reading.{triple_ranged}
+use Rattle.sheet.proofs.Readers.Loops.{Going, going_start, going_tested, sized_next}
+use Rattle.sheet.proofs.ranged.triples_ranged.Goals as goal
+
+pub loop-left-init : goal.loop-left-init
+loop-left-init c = going_start _ _ _ _ _ _
+
+pub loop-left-preserved : goal.loop-left-preserved
+loop-left-preserved c =
+    sized_next _ _ _ _ _ _ _ _ _ c.loop-left.invariant c.loop-left-test.true _
+    (c.triple_ranged-ok.ensures ∙ ap (triple_ranged _) c.triple.ensures)
+    4
+    (refl)
+    (omega arith)
+
+pub returns : goal.returns
+returns c = going_tested _ _ _ _ _ _ _ _ _ c.loop-left.invariant c.loop-left-test.false

@@ -1,0 +1,10 @@
+-- `read::sheet_ranged` meets its contract. Assumes nothing.
+use Rattle.sheet.proofs.Readers.Refusals.{sheet_ranged_found, transitions_there, last_there}
+use Rattle.sheet.specs.Reading.{sheet_layout}
+use borrow.Author.Rules.{rules}
+use Rattle.sheet.proofs.read.sheet_ranged.Goals as goal
+
+pub returns : goal.returns
+returns c =
+    let f = c.requires in
+    sheet_ranged_found _ _ c.counts-c.ensures _ _ _ _ c.number.ensures.0 c.number-2.ensures.0 (transitions_there sheet_layout _ _ f) _ _ (last_there sheet_layout _ _ f) c.transitions_ranged.ensures c.triples_ranged.ensures

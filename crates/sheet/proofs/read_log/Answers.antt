@@ -1,0 +1,6 @@
+-- `read_log` meets its contract. Assumes nothing.
+use borrow.Author.Rules.{rules}
+use Rattle.sheet.proofs.read_log.Goals as goal
+
+pub returns : goal.returns
+returns c = rw c.wide.ensures.0 at c.read.ensures

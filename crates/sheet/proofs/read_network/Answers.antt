@@ -1,0 +1,6 @@
+-- `read_network` meets its contract. Assumes nothing.
+use borrow.Author.Rules.{rules}
+use Rattle.sheet.proofs.read_network.Goals as goal
+
+pub returns : goal.returns
+returns c = rw c.network_refusal.ensures at c.answer.ensures

@@ -1,0 +1,14 @@
+-- `roles::paired_suit` meets its contract. Assumes nothing.
+use mathlib.Core.Path.{ap, ◌∙◌}
+use Prim.Native.Nat.{ℕ, ◌+◌, ◌*◌}
+use borrow.Author.Rules.{rules}
+use Rattle.sheet.specs.Decode.{paired_form}
+use Rattle.sheet.specs.Walk.{paired_suits}
+use Rattle.sheet.proofs.Readers.Loops.{Going, going_start, going_tested, sized_next, byte_past}
+use Rattle.sheet.proofs.roles.paired_suit.Given as goal
+
+abbrev pub invariant-loop-left : goal.invariant-loop-left
+invariant-loop-left l = Going (paired_suits l.s l.index l.conditions l.lent) paired_form 517 l.n l.s l.at l.ok l.here l.left
+
+abbrev pub decreases-loop-left : goal.decreases-loop-left
+decreases-loop-left l = l.left

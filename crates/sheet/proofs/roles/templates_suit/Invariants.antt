@@ -1,0 +1,14 @@
+-- `roles::templates_suit` meets its contract. Assumes nothing.
+use mathlib.Core.Path.{refl, ap, ◌∙◌}
+use borrow.Author.Rules.{rules}
+use native.Mathlib.Omega.{arith}
+use Rattle.sheet.specs.Decode.{template_form}
+use Rattle.sheet.specs.Walk.{template_suits}
+use Rattle.sheet.proofs.Readers.Loops.{Going, going_start, going_tested, sized_next}
+use Rattle.sheet.proofs.roles.templates_suit.Given as goal
+
+abbrev pub invariant-loop-left : goal.invariant-loop-left
+invariant-loop-left l = Going (template_suits l.s l.index l.conditions l.lent) template_form 2 l.n l.s l.at l.ok l.here l.left
+
+abbrev pub decreases-loop-left : goal.decreases-loop-left
+decreases-loop-left l = l.left

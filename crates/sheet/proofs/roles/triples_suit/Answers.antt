@@ -1,0 +1,23 @@
+-- `roles::triples_suit` meets its contract. Assumes nothing.
+use mathlib.Core.Path.{refl, ap, ◌∙◌}
+use borrow.Author.Rules.{rules}
+use native.Mathlib.Omega.{arith}
+use Rattle.sheet.specs.Decode.{triple_form}
+use Rattle.sheet.specs.Walk.{triple_suits}
+use Rattle.sheet.proofs.Readers.Loops.{Going, going_start, going_tested, sized_next}
+use Rattle.sheet.proofs.roles.triples_suit.Goals as goal
+
+pub loop-left-init : goal.loop-left-init
+loop-left-init c = going_start _ _ _ _ _ _
+
+pub loop-left-preserved : goal.loop-left-preserved
+loop-left-preserved c =
+    let a = c.args in
+    sized_next _ _ _ _ _ _ _ _ _ c.loop-left.invariant c.loop-left-test.true _
+    (c.triple_suits-ok.ensures ∙ ap (triple_suits a.s.now a.index.now a.conditions a.lent) c.triple.ensures)
+    4
+    (refl)
+    (omega arith)
+
+pub returns : goal.returns
+returns c = going_tested _ _ _ _ _ _ _ _ _ c.loop-left.invariant c.loop-left-test.false

@@ -1,0 +1,11 @@
+-- `spread::spread` meets its contract. Assumes nothing.
+use borrow.Author.Rules.{rules}
+use native.Mathlib.Omega.{arith}
+use Rattle.sheet.proofs.Readers.Tallies.{Tallying, tallying_start, tallying_below, tallying_next, tallying_full, tallying_end}
+use Rattle.sheet.proofs.spread.spread.Given as goal
+
+abbrev pub invariant-loop-left : goal.invariant-loop-left
+invariant-loop-left l = Tallying l.n l.s l.at l.counts l.place l.left
+
+abbrev pub decreases-loop-left : goal.decreases-loop-left
+decreases-loop-left l = l.left

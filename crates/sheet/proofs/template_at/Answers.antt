@@ -1,0 +1,6 @@
+-- `template_at` meets its contract. Assumes nothing.
+use borrow.Author.Rules.{rules}
+use Rattle.sheet.proofs.template_at.Goals as goal
+
+pub returns : goal.returns
+returns c = rw c.place.ensures.0 at c.template.ensures
