@@ -18,7 +18,7 @@ use Rattle.sheet.specs.Bytes.{byte, half}
 use Rattle.sheet.specs.Table.{table, after, every}
 use Rattle.sheet.specs.Parts.{Common, Paired}
 use Rattle.sheet.specs.Decode.{wide, word_form, length_form, pair_form, paired_form, pair_count_form, conditions_in, actions_in, transitions_in, last_in, conditions_at, actions_at, transitions_at, last_at, common_of}
-use Rattle.sheet.specs.Reading.{Layout, guard, precondition, postcondition, between, is_bad, most_bytes, lent_in, condition_in, whole, counted, tabled, formed, names_entry, names_monitor, used_well, roled, ranged, unless, transitions_of, last_of, reading, counts_of, transition_ranged, triple_ranged, together, sheet_layout, no_template, pair_ranged, template_ranged, network_layout}
+use Rattle.sheet.specs.Reading.{Layout, guard, precondition, between, is_bad, most_bytes, lent_in, condition_in, whole, counted, tabled, formed, names_entry, names_monitor, used_well, roled, ranged, unless, transitions_of, last_of, reading, counts_of, transition_ranged, triple_ranged, together, sheet_layout, no_template, pair_ranged, template_ranged, network_layout}
 use Rattle.sheet.proofs.Tables.{length_records, same_records, every_at, every_or, every_map}
 use Rattle.sheet.proofs.Tests.{and_iff, leb_iff, eqb_iff, not_iff}
 

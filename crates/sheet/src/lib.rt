@@ -1,5 +1,6 @@
 // Sheets, networks and logs: their layouts, and reading them. A byte past the end reads as 0, so
 // that every operation answers for all bytes and all places.
+#![tactic(auto)]
 
 ghost use Rattle.std.specs.Prelude.{◌≡◌, false, drop};
 ghost use Rattle.sheet.specs.Bytes.{byte};

@@ -7,11 +7,9 @@ use native.Mathlib.Omega.{arith}
 use borrow.Author.Tests.{leb-true, eq-eqb, ne_eqb}
 use lib.Dec.{leb, eqb}
 use lib.ListN.{length, drop}
-use Rattle.sheet.specs.declared.Reading.TheVariants as sheet
-use Rattle.sheet.specs.declared.LogReading.TheVariants as log
 use Rattle.sheet.specs.declared.walk.Tables.{Tables}
 use Rattle.sheet.specs.Bytes.{byte, half, word}
-use Rattle.sheet.specs.Table.{records, starts, fit}
+use Rattle.sheet.specs.Table.{starts, fit}
 use Rattle.sheet.specs.Decode.{wide, text_form, conditions_in, actions_in}
 use Rattle.sheet.specs.Reading.{Layout}
 use Rattle.sheet.specs.Log.{record_size, log_reading, records_in}

@@ -1,5 +1,4 @@
 -- `condition_at` meets its contract. Assumes nothing.
-use borrow.Author.Rules.{rules}
 use Rattle.sheet.proofs.condition_at.Goals as goal
 
 pub returns : goal.returns

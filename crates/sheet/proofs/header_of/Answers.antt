@@ -1,5 +1,4 @@
 -- `header_of` meets its contract. Assumes nothing.
-use borrow.Author.Rules.{rules}
 use Rattle.sheet.proofs.header_of.Goals as goal
 
 pub returns : goal.returns

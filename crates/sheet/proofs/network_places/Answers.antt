@@ -1,7 +1,6 @@
 -- `network_places` meets its contract. Assumes nothing.
 use Rattle.sheet.specs.Reading.{network_layout}
 use Rattle.sheet.proofs.Readers.Logs.{places_found}
-use borrow.Author.Rules.{rules}
 use Rattle.sheet.proofs.network_places.Goals as goal
 
 pub returns : goal.returns

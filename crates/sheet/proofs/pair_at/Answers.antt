@@ -1,5 +1,4 @@
 -- `pair_at` meets its contract. Assumes nothing.
-use borrow.Author.Rules.{rules}
 use Rattle.sheet.proofs.pair_at.Goals as goal
 
 pub returns : goal.returns

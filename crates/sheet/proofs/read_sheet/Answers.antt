@@ -1,5 +1,4 @@
 -- `read_sheet` meets its contract. Assumes nothing.
-use borrow.Author.Rules.{rules}
 use Rattle.sheet.proofs.read_sheet.Goals as goal
 
 pub returns : goal.returns

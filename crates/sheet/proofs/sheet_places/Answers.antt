@@ -1,7 +1,6 @@
 -- `sheet_places` meets its contract. Assumes nothing.
 use Rattle.sheet.specs.Reading.{sheet_layout}
 use Rattle.sheet.proofs.Readers.Logs.{places_found}
-use borrow.Author.Rules.{rules}
 use Rattle.sheet.proofs.sheet_places.Goals as goal
 
 pub returns : goal.returns

@@ -1,5 +1,4 @@
 -- `word_at` meets its contract. Assumes nothing.
-use borrow.Author.Rules.{rules}
 use Rattle.sheet.proofs.word_at.Goals as goal
 
 pub returns : goal.returns

@@ -1,7 +1,6 @@
 -- `bytes::paired_size` meets its contract. Assumes nothing.
 use mathlib.Core.Path.{ap}
 use native.Mathlib.Omega.{arith}
-use borrow.Author.Rules.{rules}
 use Prim.Native.Nat.{ℕ, ◌+◌}
 use Rattle.sheet.proofs.bytes.paired_size.Goals as goal
 

@@ -1,7 +1,6 @@
 -- `bytes::said` meets its contract. Assumes nothing.
 use Rattle.sheet.proofs.Readers.Widths.{said_wide, said_narrow}
 use native.Mathlib.Omega.{arith}
-use borrow.Author.Rules.{rules}
 use Rattle.sheet.proofs.bytes.said.Goals as goal
 
 pub returns-then-w : goal.returns-then-w

@@ -1,6 +1,5 @@
 -- `bytes::word` meets its contract. Assumes nothing.
 use mathlib.Core.Path.{ap}
-use borrow.Author.Rules.{rules}
 use native.Mathlib.Nat.{add_assoc}
 use native.Mathlib.Omega.{arith}
 use Prim.Native.Nat.{ℕ}

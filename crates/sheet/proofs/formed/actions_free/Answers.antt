@@ -1,11 +1,9 @@
 -- `formed::actions_free` meets its contract. Assumes nothing.
 use mathlib.Core.Path.{ap, ◌∙◌}
-use borrow.Author.Rules.{rules}
-use mathlib.Core.Bool.{not, false}
+use mathlib.Core.Bool.{not}
 use Rattle.condition.specs.Tree.{action_names, is_at_entry}
 use Rattle.condition.specs.Answer.{action_which}
-use Rattle.sheet.specs.Decode.{text_form}
-use Rattle.sheet.proofs.Readers.Loops.{Going, going_start, going_tested, sized_next}
+use Rattle.sheet.proofs.Readers.Loops.{going_start, going_tested, sized_next}
 use Rattle.sheet.proofs.formed.actions_free.Goals as goal
 
 pub loop-left-init : goal.loop-left-init

@@ -1,10 +1,8 @@
 -- `formed::conditions_formed` meets its contract. Assumes nothing.
-use mathlib.Core.Path.{ap, ◌∙◌}
-use borrow.Author.Rules.{rules}
 use mathlib.Core.Bool.{true}
 use Rattle.condition.specs.Answer.{condition_which}
 use Rattle.sheet.specs.Decode.{text_form}
-use Rattle.sheet.proofs.Readers.Loops.{Going, going_start, going_tested, sized_next}
+use Rattle.sheet.proofs.Readers.Loops.{Going}
 use Rattle.sheet.proofs.formed.conditions_formed.Given as goal
 
 abbrev pub invariant-loop-left : goal.invariant-loop-left

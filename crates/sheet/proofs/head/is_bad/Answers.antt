@@ -1,5 +1,4 @@
 -- `head::is_bad` meets its contract. Assumes nothing.
-use borrow.Author.Rules.{rules}
 use Rattle.sheet.proofs.head.is_bad.Goals as goal
 
 pub returns : goal.returns

@@ -1,7 +1,6 @@
 -- `head::version_is` meets its contract. Assumes nothing.
 use mathlib.Core.Path.{ap, ◌∙◌}
 use Rattle.sheet.specs.Reading.{between}
-use borrow.Author.Rules.{rules}
 use Rattle.sheet.proofs.head.version_is.Goals as goal
 
 pub returns : goal.returns

@@ -1,5 +1,4 @@
 use Rattle.sheet.specs.Reading.{whole}
-use borrow.Author.Rules.{rules}
 use Rattle.sheet.proofs.head.whole.Goals as goal
 
 pub returns : goal.returns

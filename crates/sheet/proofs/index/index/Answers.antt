@@ -1,8 +1,5 @@
 -- `index::index` meets its contract. Assumes nothing.
-use mathlib.Core.Logic.{⊎_elim}
-use borrow.Author.Rules.{rules}
-use Prim.Native.Nat.{◌-◌}
-use Rattle.sheet.proofs.Readers.Indexing.{Indexed, indexed_start, indexed_next, indexed_past, indexed_end}
+use Rattle.sheet.proofs.Readers.Indexing.{indexed_start, indexed_next, indexed_past, indexed_end}
 use Rattle.sheet.proofs.index.index.Goals as goal
 use Rattle.sheet.proofs.index.index.Goals.{else-i-lt161, then-i-lt161}
 

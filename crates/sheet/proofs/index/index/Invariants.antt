@@ -1,8 +1,6 @@
 -- `index::index` meets its contract. Assumes nothing.
-use mathlib.Core.Logic.{⊎_elim}
-use borrow.Author.Rules.{rules}
 use Prim.Native.Nat.{◌-◌}
-use Rattle.sheet.proofs.Readers.Indexing.{Indexed, indexed_start, indexed_next, indexed_past, indexed_end}
+use Rattle.sheet.proofs.Readers.Indexing.{Indexed}
 use Rattle.sheet.proofs.index.index.Given as goal
 
 abbrev pub invariant-loop-i : goal.invariant-loop-i

@@ -2,7 +2,6 @@
 use mathlib.Core.Path.{ap, ◌∙◌}
 use Prim.Native.Nat.{ℕ, ◌+◌}
 use Rattle.sheet.proofs.Readers.Logs.{log_16, log_long, log_17, log_18, log_accepted}
-use borrow.Author.Rules.{rules}
 use Rattle.sheet.proofs.log.read.Goals as goal
 
 pub returns-else-s-said : goal.returns-else-s-said

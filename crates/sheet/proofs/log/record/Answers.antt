@@ -2,7 +2,6 @@
 use mathlib.Core.Path.{◌∙◌}
 use Rattle.sheet.proofs.Readers.Loops.{byte_here, byte_past}
 use Rattle.sheet.proofs.Readers.Logs.{half_past}
-use borrow.Author.Rules.{rules}
 use Rattle.sheet.proofs.log.record.Goals as goal
 
 pub returns : goal.returns

@@ -1,10 +1,7 @@
 -- `log::words` meets its contract. Assumes nothing.
 use mathlib.Core.Path.{refl, ◌∙◌}
-use mathlib.Core.Logic.{⊎_elim}
-use borrow.Author.Rules.{rules}
-use Prim.Native.Nat.{◌-◌}
 use Rattle.sheet.specs.Decode.{word_form}
-use Rattle.sheet.proofs.Readers.Filling.{Filled, filled_start, filled_next, filled_past, filled_end}
+use Rattle.sheet.proofs.Readers.Filling.{filled_start, filled_next, filled_past, filled_end}
 use Rattle.sheet.proofs.Readers.Logs.{word_here}
 use Rattle.sheet.proofs.log.words.Goals as goal
 use Rattle.sheet.proofs.log.words.Goals.{else-i-lt8, then-i-lt8}

@@ -5,7 +5,6 @@ use Rattle.sheet.specs.Table.{every}
 use Rattle.sheet.specs.Reading.{transition_ranged}
 use Rattle.sheet.specs.Walk.{pair_fits}
 use Rattle.sheet.proofs.Readers.Found.{paired_value}
-use borrow.Author.Rules.{rules}
 use Rattle.sheet.proofs.ranged.one_paired_ranged.Goals as goal
 
 pub returns : goal.returns

@@ -1,5 +1,4 @@
 -- `ranged::pair_ranged` meets its contract. Assumes nothing.
-use borrow.Author.Rules.{rules}
 use Rattle.sheet.specs.Walk.{pair_fits}
 use Rattle.sheet.proofs.ranged.pair_ranged.Goals as goal
 

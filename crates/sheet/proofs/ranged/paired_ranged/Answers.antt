@@ -1,10 +1,7 @@
 -- `ranged::paired_ranged` meets its contract. Assumes nothing.
 use mathlib.Core.Path.{ap, ◌∙◌}
 use Prim.Native.Nat.{ℕ, ◌+◌, ◌*◌}
-use borrow.Author.Rules.{rules}
-use Rattle.sheet.specs.Decode.{paired_form}
-use Rattle.sheet.specs.Walk.{paired_fits}
-use Rattle.sheet.proofs.Readers.Loops.{Going, going_start, going_tested, sized_next, byte_past}
+use Rattle.sheet.proofs.Readers.Loops.{going_start, going_tested, sized_next, byte_past}
 use Rattle.sheet.proofs.ranged.paired_ranged.Goals as goal
 
 pub loop-left-init : goal.loop-left-init

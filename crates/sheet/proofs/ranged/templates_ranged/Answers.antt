@@ -1,7 +1,5 @@
 -- `ranged::templates_ranged` meets its contract. Assumes nothing.
-use borrow.Author.Rules.{rules}
-use Prim.Native.Nat.{◌-◌}
-use Rattle.sheet.proofs.Readers.Units.{Judging, judging_start, judging_next, judging_end}
+use Rattle.sheet.proofs.Readers.Units.{judging_start, judging_next, judging_end}
 use Rattle.sheet.proofs.ranged.templates_ranged.Goals as goal
 
 pub loop-i-init : goal.loop-i-init

@@ -1,7 +1,6 @@
 -- `ranged::templates_ranged` meets its contract. Assumes nothing.
-use borrow.Author.Rules.{rules}
 use Prim.Native.Nat.{◌-◌}
-use Rattle.sheet.proofs.Readers.Units.{Judging, judging_start, judging_next, judging_end}
+use Rattle.sheet.proofs.Readers.Units.{Judging}
 use Rattle.sheet.proofs.ranged.templates_ranged.Given as goal
 
 abbrev pub invariant-loop-i : goal.invariant-loop-i

@@ -1,10 +1,8 @@
 -- `ranged::transitions_ranged` meets its contract. Assumes nothing.
 use mathlib.Core.Path.{refl, ap, ◌∙◌}
-use borrow.Author.Rules.{rules}
 use native.Mathlib.Omega.{arith}
-use Rattle.sheet.specs.Decode.{transition_form}
 use Rattle.sheet.specs.Reading.{transition_ranged}
-use Rattle.sheet.proofs.Readers.Loops.{Going, going_start, going_tested, sized_next}
+use Rattle.sheet.proofs.Readers.Loops.{going_start, going_tested, sized_next}
 use Rattle.sheet.proofs.ranged.transitions_ranged.Goals as goal
 
 pub loop-left-init : goal.loop-left-init

@@ -1,6 +1,5 @@
 -- `read::answer` meets its contract. Assumes nothing.
 use Rattle.sheet.proofs.Readers.Logs.{answer_refused}
-use borrow.Author.Rules.{rules}
 use Rattle.sheet.proofs.read.answer.Goals as goal
 
 pub returns-else-n-eq0 : goal.returns-else-n-eq0

@@ -1,6 +1,5 @@
 -- `read::counts` meets its contract. Assumes nothing.
 use Rattle.sheet.proofs.Readers.Refusals.{counts_found}
-use borrow.Author.Rules.{rules}
 use Rattle.sheet.proofs.read.counts.Goals as goal
 
 pub returns : goal.returns

@@ -1,6 +1,5 @@
 -- `read::lent` meets its contract. Assumes nothing.
 use Rattle.sheet.proofs.Readers.Refusals.{lent_found}
-use borrow.Author.Rules.{rules}
 use Rattle.sheet.proofs.read.lent.Goals as goal
 
 pub returns : goal.returns

@@ -2,7 +2,6 @@
 use mathlib.Core.Path.{ap, ◌∙◌}
 use Prim.Native.Nat.{ℕ}
 use Rattle.sheet.specs.Reading.{network_layout, counts_hold, counted}
-use borrow.Author.Rules.{rules}
 use Rattle.sheet.proofs.read.network_counts.Goals as goal
 
 pub returns : goal.returns

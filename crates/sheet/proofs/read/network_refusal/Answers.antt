@@ -3,7 +3,6 @@ use mathlib.Core.Path.{refl, sym, ◌∙◌}
 use mathlib.Core.Bool.{true, false}
 use Rattle.sheet.specs.Reading.{network_layout}
 use Rattle.sheet.proofs.Readers.Refusals.{refuse_1, refuse_2, refuse_3, refuse_4, refuse_5, refuse_6, refuse_7, refuse_none, tabled_is, texts_there, few_network, few_templates}
-use borrow.Author.Rules.{rules}
 use Rattle.sheet.proofs.read.network_refusal.Goals as goal
 
 pub returns-else-whole : goal.returns-else-whole

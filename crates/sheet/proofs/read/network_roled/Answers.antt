@@ -1,7 +1,6 @@
 -- `read::network_roled` meets its contract. Assumes nothing.
 use Rattle.sheet.proofs.Readers.Refusals.{network_roled_found, texts_there, transitions_there, last_there}
 use Rattle.sheet.specs.Reading.{network_layout}
-use borrow.Author.Rules.{rules}
 use Rattle.sheet.proofs.read.network_roled.Goals as goal
 
 pub returns : goal.returns

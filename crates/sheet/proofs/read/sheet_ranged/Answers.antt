@@ -1,7 +1,6 @@
 -- `read::sheet_ranged` meets its contract. Assumes nothing.
 use Rattle.sheet.proofs.Readers.Refusals.{sheet_ranged_found, transitions_there, last_there}
 use Rattle.sheet.specs.Reading.{sheet_layout}
-use borrow.Author.Rules.{rules}
 use Rattle.sheet.proofs.read.sheet_ranged.Goals as goal
 
 pub returns : goal.returns

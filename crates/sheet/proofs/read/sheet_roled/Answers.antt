@@ -1,7 +1,6 @@
 -- `read::sheet_roled` meets its contract. Assumes nothing.
 use Rattle.sheet.proofs.Readers.Refusals.{sheet_roled_found, texts_there, transitions_there, last_there}
 use Rattle.sheet.specs.Reading.{sheet_layout}
-use borrow.Author.Rules.{rules}
 use Rattle.sheet.proofs.read.sheet_roled.Goals as goal
 
 pub returns : goal.returns

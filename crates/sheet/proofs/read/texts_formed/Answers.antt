@@ -1,6 +1,5 @@
 -- `read::texts_formed` meets its contract. Assumes nothing.
 use Rattle.sheet.proofs.Readers.Refusals.{formed_found}
-use borrow.Author.Rules.{rules}
 use Rattle.sheet.proofs.read.texts_formed.Goals as goal
 
 pub returns : goal.returns

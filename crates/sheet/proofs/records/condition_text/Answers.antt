@@ -3,7 +3,6 @@ use mathlib.Core.Path.{ap, ◌∙◌}
 use mathlib.Core.Bool.{Bool}
 use lib.ListN.{drop}
 use Rattle.sheet.specs.Decode.{text_form}
-use borrow.Author.Rules.{rules}
 use Rattle.sheet.proofs.records.condition_text.Goals as goal
 
 pub returns : goal.returns

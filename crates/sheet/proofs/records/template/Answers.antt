@@ -1,7 +1,6 @@
 -- `records::template` meets its contract. Assumes nothing.
 use mathlib.Core.Path.{◌∙◌}
 use Rattle.sheet.proofs.Readers.Loops.{byte_here, byte_past}
-use borrow.Author.Rules.{rules}
 use Rattle.sheet.proofs.records.template.Goals as goal
 
 pub returns : goal.returns

@@ -1,6 +1,5 @@
 -- `records::text` meets its contract. Assumes nothing.
 use Rattle.sheet.proofs.Readers.Widths.{text_part}
-use borrow.Author.Rules.{rules}
 use Rattle.sheet.proofs.records.text.Goals as goal
 
 pub returns : goal.returns

@@ -1,7 +1,6 @@
 -- `records::word` meets its contract. Assumes nothing.
 use mathlib.Core.Path.{◌∙◌}
 use Rattle.sheet.proofs.Readers.Logs.{word_here}
-use borrow.Author.Rules.{rules}
 use Rattle.sheet.proofs.records.word.Goals as goal
 
 pub returns : goal.returns

@@ -1,5 +1,4 @@
 -- `roles::names_monitor` meets its contract. Assumes nothing.
-use borrow.Author.Rules.{rules}
 use Rattle.condition.specs.Tree.{is_monitor}
 use Rattle.sheet.proofs.Readers.Suits.{names_there, names_past}
 use Rattle.sheet.proofs.roles.names_monitor.Goals as goal

@@ -4,7 +4,6 @@ use mathlib.Core.Bool.{◌&&◌}
 use Rattle.sheet.specs.Table.{every}
 use Rattle.sheet.specs.Walk.{guard_suits, pair_suits}
 use Rattle.sheet.proofs.Readers.Found.{paired_value}
-use borrow.Author.Rules.{rules}
 use Rattle.sheet.proofs.roles.one_paired_suits.Goals as goal
 
 pub returns : goal.returns

@@ -1,7 +1,6 @@
 -- `roles::pair_suits` meets its contract. Assumes nothing.
 use mathlib.Core.Path.{ap}
 use mathlib.Core.Bool.{not}
-use borrow.Author.Rules.{rules}
 use Rattle.sheet.proofs.roles.pair_suits.Goals as goal
 
 pub returns : goal.returns

@@ -1,10 +1,7 @@
 -- `roles::paired_suit` meets its contract. Assumes nothing.
-use mathlib.Core.Path.{ap, ◌∙◌}
-use Prim.Native.Nat.{ℕ, ◌+◌, ◌*◌}
-use borrow.Author.Rules.{rules}
 use Rattle.sheet.specs.Decode.{paired_form}
 use Rattle.sheet.specs.Walk.{paired_suits}
-use Rattle.sheet.proofs.Readers.Loops.{Going, going_start, going_tested, sized_next, byte_past}
+use Rattle.sheet.proofs.Readers.Loops.{Going}
 use Rattle.sheet.proofs.roles.paired_suit.Given as goal
 
 abbrev pub invariant-loop-left : goal.invariant-loop-left

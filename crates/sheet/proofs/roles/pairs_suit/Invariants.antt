@@ -1,10 +1,7 @@
 -- `roles::pairs_suit` meets its contract. Assumes nothing.
-use mathlib.Core.Path.{refl, ap, ◌∙◌}
-use borrow.Author.Rules.{rules}
-use native.Mathlib.Omega.{arith}
 use Rattle.sheet.specs.Decode.{pair_form}
 use Rattle.sheet.specs.Walk.{pair_suits}
-use Rattle.sheet.proofs.Readers.Loops.{Going, going_start, going_tested, sized_next}
+use Rattle.sheet.proofs.Readers.Loops.{Going}
 use Rattle.sheet.proofs.roles.pairs_suit.Given as goal
 
 abbrev pub invariant-loop-left : goal.invariant-loop-left

@@ -1,7 +1,6 @@
 -- `roles::triple_suits` meets its contract. Assumes nothing.
 use mathlib.Core.Path.{ap₂}
 use mathlib.Core.Bool.{Bool, not, ◌&&◌}
-use borrow.Author.Rules.{rules}
 use Rattle.sheet.proofs.roles.triple_suits.Goals as goal
 
 pub returns : goal.returns

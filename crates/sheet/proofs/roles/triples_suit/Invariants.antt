@@ -1,10 +1,7 @@
 -- `roles::triples_suit` meets its contract. Assumes nothing.
-use mathlib.Core.Path.{refl, ap, ◌∙◌}
-use borrow.Author.Rules.{rules}
-use native.Mathlib.Omega.{arith}
 use Rattle.sheet.specs.Decode.{triple_form}
 use Rattle.sheet.specs.Walk.{triple_suits}
-use Rattle.sheet.proofs.Readers.Loops.{Going, going_start, going_tested, sized_next}
+use Rattle.sheet.proofs.Readers.Loops.{Going}
 use Rattle.sheet.proofs.roles.triples_suit.Given as goal
 
 abbrev pub invariant-loop-left : goal.invariant-loop-left

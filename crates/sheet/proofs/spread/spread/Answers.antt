@@ -1,7 +1,6 @@
 -- `spread::spread` meets its contract. Assumes nothing.
-use borrow.Author.Rules.{rules}
 use native.Mathlib.Omega.{arith}
-use Rattle.sheet.proofs.Readers.Tallies.{Tallying, tallying_start, tallying_below, tallying_next, tallying_full, tallying_end}
+use Rattle.sheet.proofs.Readers.Tallies.{tallying_start, tallying_below, tallying_next, tallying_full, tallying_end}
 use Rattle.sheet.proofs.spread.spread.Goals as goal
 
 pub loop-left-init : goal.loop-left-init

@@ -1,7 +1,5 @@
 -- `spread::spread` meets its contract. Assumes nothing.
-use borrow.Author.Rules.{rules}
-use native.Mathlib.Omega.{arith}
-use Rattle.sheet.proofs.Readers.Tallies.{Tallying, tallying_start, tallying_below, tallying_next, tallying_full, tallying_end}
+use Rattle.sheet.proofs.Readers.Tallies.{Tallying}
 use Rattle.sheet.proofs.spread.spread.Given as goal
 
 abbrev pub invariant-loop-left : goal.invariant-loop-left

@@ -1,6 +1,5 @@
 -- `walk::find_texts` meets its contract. Assumes nothing.
 use Rattle.sheet.proofs.Readers.Found.{texts_found}
-use borrow.Author.Rules.{rules}
 use Rattle.sheet.proofs.walk.find_texts.Goals as goal
 
 pub returns : goal.returns

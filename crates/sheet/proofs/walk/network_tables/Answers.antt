@@ -1,6 +1,5 @@
 -- `walk::network_tables` meets its contract. Assumes nothing.
 use Rattle.sheet.proofs.Readers.Found.{network_found}
-use borrow.Author.Rules.{rules}
 use Rattle.sheet.proofs.walk.network_tables.Goals as goal
 
 pub returns : goal.returns

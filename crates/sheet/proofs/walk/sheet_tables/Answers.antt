@@ -1,6 +1,5 @@
 -- `walk::sheet_tables` meets its contract. Assumes nothing.
 use Rattle.sheet.proofs.Readers.Found.{sheet_found}
-use borrow.Author.Rules.{rules}
 use Rattle.sheet.proofs.walk.sheet_tables.Goals as goal
 
 pub returns : goal.returns

@@ -2,11 +2,10 @@
 use mathlib.Core.Path.{refl, ap, ap₂, ◌∙◌}
 use Prim.Native.Nat.{ℕ, ◌+◌, ◌*◌}
 use native.Mathlib.Omega.{arith}
-use borrow.Author.Rules.{rules}
 use Rattle.sheet.specs.Decode.{paired_form, pair_count_form}
 use Rattle.sheet.specs.Reading.{between}
 use Rattle.sheet.proofs.Tables.{same_after}
-use Rattle.sheet.proofs.Readers.Loops.{Going, going_start, going_tested, going_ended, byte_past, sized_next}
+use Rattle.sheet.proofs.Readers.Loops.{going_start, going_tested, going_ended, byte_past, sized_next}
 use Rattle.sheet.proofs.walk.walk_paired.Goals as goal
 
 pub loop-left-init : goal.loop-left-init

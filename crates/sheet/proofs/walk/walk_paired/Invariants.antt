@@ -1,12 +1,7 @@
 -- `walk::walk_paired` meets its contract. Assumes nothing.
-use mathlib.Core.Path.{refl, ap, ap₂, ◌∙◌}
-use Prim.Native.Nat.{ℕ, ◌+◌, ◌*◌}
-use native.Mathlib.Omega.{arith}
-use borrow.Author.Rules.{rules}
-use Rattle.sheet.specs.Decode.{paired_form, pair_count_form}
+use Rattle.sheet.specs.Decode.{pair_count_form}
 use Rattle.sheet.specs.Reading.{between}
-use Rattle.sheet.proofs.Tables.{same_after}
-use Rattle.sheet.proofs.Readers.Loops.{Going, going_start, going_tested, going_ended, byte_past, sized_next}
+use Rattle.sheet.proofs.Readers.Loops.{Going}
 use Rattle.sheet.proofs.walk.walk_paired.Given as goal
 
 abbrev pub invariant-loop-left : goal.invariant-loop-left

@@ -2,11 +2,10 @@
 use mathlib.Core.Path.{refl, ap₂, ◌∙◌}
 use Prim.Native.Nat.{ℕ, ◌+◌}
 use native.Mathlib.Omega.{arith}
-use borrow.Author.Rules.{rules}
 use Rattle.sheet.specs.Decode.{text_form, length_form}
-use Rattle.sheet.specs.Reading.{between, most_bytes}
+use Rattle.sheet.specs.Reading.{between}
 use Rattle.sheet.proofs.Tables.{same_after}
-use Rattle.sheet.proofs.Readers.Loops.{Going, going_start, going_tested, going_ended, sized_next}
+use Rattle.sheet.proofs.Readers.Loops.{going_start, going_tested, going_ended, sized_next}
 use Rattle.sheet.proofs.walk.walk_texts.Goals as goal
 
 pub loop-left-init : goal.loop-left-init

@@ -1,12 +1,7 @@
 -- `walk::walk_texts` meets its contract. Assumes nothing.
-use mathlib.Core.Path.{refl, ap₂, ◌∙◌}
-use Prim.Native.Nat.{ℕ, ◌+◌}
-use native.Mathlib.Omega.{arith}
-use borrow.Author.Rules.{rules}
-use Rattle.sheet.specs.Decode.{text_form, length_form}
+use Rattle.sheet.specs.Decode.{length_form}
 use Rattle.sheet.specs.Reading.{between, most_bytes}
-use Rattle.sheet.proofs.Tables.{same_after}
-use Rattle.sheet.proofs.Readers.Loops.{Going, going_start, going_tested, going_ended, sized_next}
+use Rattle.sheet.proofs.Readers.Loops.{Going}
 use Rattle.sheet.proofs.walk.walk_texts.Given as goal
 
 abbrev pub invariant-loop-left : goal.invariant-loop-left
