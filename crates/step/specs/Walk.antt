@@ -7,7 +7,6 @@ use Rattle.sheet.specs.declared.Transition.{Transition}
 use Rattle.sheet.specs.Bytes.{byte}
 use Rattle.sheet.specs.Table.{Form}
 use Rattle.sheet.specs.Decode.{text_form, transition_of}
-use Rattle.step.specs.Calls as Calls
 
 -- the variables after an action by its number
 abbrev pub acted_at : List ℕ → List ℕ → ℕ → List ℕ → ℕ → List ℕ → List ℕ

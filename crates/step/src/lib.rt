@@ -1,4 +1,5 @@
 // What the engines on a sheet and on a network share.
+#![tactic(auto)]
 
 ghost use Rattle.std.specs.Prelude.{◌≡◌, ◌&&◌, ◌<◌, eqb, take};
 ghost use Rattle.step.specs.Lists.{any, place_of};

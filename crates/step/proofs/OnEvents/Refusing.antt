@@ -13,7 +13,6 @@ use Rattle.sheet.specs.Table.{every}
 use Rattle.sheet.specs.Log.{Event}
 use Rattle.sheet.proofs.Tables.{and_parts}
 use Rattle.sheet.proofs.Tests.{and_iff, leb_iff, eqb_iff}
-use Rattle.step.specs.declared.Call.{Call}
 use Rattle.step.specs.Calls as Calls
 use Rattle.step.specs.Calls.{is_entry, is_exit, open_number, open_for, most_calls, last_position, Refusal, refusals, lowest}
 use Rattle.step.proofs.OnLists.Keeping.{any_weaker}

@@ -1,13 +1,9 @@
 -- `call_open_for` meets its contract. Assumes nothing.
-use mathlib.Core.Path.{◌≡◌}
 use mathlib.Core.Bool.{◌&&◌}
 use Prim.Native.Nat.{◌-◌}
-use borrow.Author.Rules.{rules}
-use native.Mathlib.Omega.{arith}
 use lib.Dec.{eqb}
-use lib.ListN.{length, take}
-use Rattle.step.specs.declared.Call.{Call}
-use Rattle.step.proofs.OnLists.Searching.{Passed, passed_none, call_none, call_nothing, call_any, call_more}
+use lib.ListN.{take}
+use Rattle.step.proofs.OnLists.Searching.{Passed}
 use Rattle.step.proofs.call_open_for.Given as goal
 
 abbrev pub invariant-loop-i : goal.invariant-loop-i

@@ -1,13 +1,12 @@
 -- `call_place` meets its contract. Assumes nothing.
 use mathlib.Core.Path.{◌≡◌}
-use Prim.Native.Nat.{◌-◌}
 use borrow.Author.Rules.{rules}
 use native.Mathlib.Omega.{arith}
 use borrow.Author.Tests.{eq-eqb, ne_eqb}
 use lib.Dec.{eqb}
-use lib.ListN.{length, take}
+use lib.ListN.{length}
 use Rattle.step.specs.declared.Call.{Call}
-use Rattle.step.proofs.OnLists.Searching.{Passed, passed_none, call_far, call_end, call_found, call_more}
+use Rattle.step.proofs.OnLists.Searching.{passed_none, call_far, call_end, call_found, call_more}
 use Rattle.step.proofs.call_place.Goals as goal
 
 pub loop-i-init : goal.loop-i-init

@@ -1,5 +1,4 @@
 -- `outcomes::cause_fits` meets its contract. Assumes nothing.
-use borrow.Author.Rules.{rules}
 use Rattle.step.proofs.OnEvents.Causes.{fits_state, fits_triple, fits_both}
 use Rattle.step.proofs.outcomes.cause_fits.Goals as goal
 

@@ -1,5 +1,4 @@
 -- `outcomes::outcome` meets its contract. Assumes nothing.
-use borrow.Author.Rules.{rules}
 use Rattle.step.proofs.OnEvents.Causes.{outcome_both, outcome_triple, outcome_state, outcome_open}
 use Rattle.step.proofs.outcomes.outcome.Goals as goal
 

@@ -1,5 +1,4 @@
 -- `outcomes::outcome_fits` meets its contract. Assumes nothing.
-use borrow.Author.Rules.{rules}
 use Rattle.step.proofs.OnEvents.Causes.{fits_open, fits_judged}
 use Rattle.step.proofs.outcomes.outcome_fits.Goals as goal
 

@@ -3,11 +3,8 @@ use mathlib.Core.Path.{◌≡◌}
 use mathlib.Core.Bool.{true}
 use mathlib.Core.List.{map}
 use Prim.Native.Nat.{ℕ, ◌-◌}
-use borrow.Author.Rules.{rules}
-use native.Mathlib.Omega.{arith}
 use lib.ListN.{take}
 use Rattle.step.specs.Lists.{distinct}
-use Rattle.step.proofs.OnLists.Turns.{row_end, row_far, row_next, row_fails}
 use Rattle.step.proofs.rows.all_distinct.Given as goal
 
 abbrev pub invariant-loop-i : goal.invariant-loop-i

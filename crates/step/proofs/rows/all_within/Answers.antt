@@ -1,11 +1,7 @@
 -- `rows::all_within` meets its contract. Assumes nothing.
-use mathlib.Core.Path.{◌≡◌, refl, ◌∙◌}
-use mathlib.Core.Bool.{Bool, ◌&&◌}
-use Prim.Native.Nat.{ℕ, ◌-◌}
-use borrow.Author.Rules.{rules}
+use mathlib.Core.Path.{refl, ◌∙◌}
 use lib.Dec.{leb}
-use lib.ListN.{drop, take}
-use Rattle.sheet.specs.Table.{every}
+use lib.ListN.{take}
 use Rattle.step.proofs.OnLists.Rooms.{every_and}
 use Rattle.step.proofs.OnLists.Turns.{part_end, part_far, part_next, part_fails}
 use Rattle.step.proofs.rows.all_within.Goals as goal

@@ -1,16 +1,11 @@
 -- `rows::calls_clear` meets its contract. Assumes nothing.
-use mathlib.Core.Path.{◌≡◌, refl}
+use mathlib.Core.Path.{◌≡◌}
 use mathlib.Core.Bool.{Bool, ◌&&◌}
-use mathlib.Core.List.{[]}
 use Prim.Native.Nat.{◌-◌}
-use borrow.Author.Rules.{rules}
-use native.Mathlib.Omega.{arith}
-use lib.ListN.{length, get_or, drop}
+use lib.ListN.{drop}
 use Rattle.sheet.specs.Table.{every}
 use Rattle.step.specs.Padding.{padded, is_zero_call}
 use Rattle.step.specs.declared.Call.{Call}
-use Rattle.step.proofs.OnLists.Rooms.{no_call_is}
-use Rattle.step.proofs.OnLists.Turns.{every_end, every_next, every_fails}
 use Rattle.step.proofs.rows.calls_clear.Given as goal
 
 abbrev pub none : Call → Bool

@@ -1,13 +1,10 @@
 -- `rows::clear_from` meets its contract. Assumes nothing.
-use mathlib.Core.Path.{◌≡◌, refl}
+use mathlib.Core.Path.{◌≡◌}
 use Prim.Native.Nat.{◌-◌}
-use borrow.Author.Rules.{rules}
-use borrow.Author.Tests.{eq-eqb, ne_eqb}
 use lib.Dec.{eqb}
 use lib.ListN.{length, drop}
 use Rattle.sheet.specs.Table.{every}
 use Rattle.step.specs.Padding.{clear}
-use Rattle.step.proofs.OnLists.Turns.{every_end, every_next, every_fails}
 use Rattle.step.proofs.rows.clear_from.Given as goal
 
 abbrev pub invariant-loop-i : goal.invariant-loop-i

@@ -1,8 +1,6 @@
 -- `rows::eight` meets its contract. Assumes nothing.
-use Prim.Native.Nat.{◌-◌}
-use borrow.Author.Rules.{rules}
-use lib.ListN.{length, drop, drop_of_length-le}
-use Rattle.step.proofs.OnLists.Filling.{Filling, filling_start, filling_next, filling_full, filling_end}
+use lib.ListN.{drop_of_length-le}
+use Rattle.step.proofs.OnLists.Filling.{filling_start, filling_next, filling_full, filling_end}
 use Rattle.step.proofs.rows.eight.Goals as goal
 
 pub loop-i-init : goal.loop-i-init

@@ -1,8 +1,7 @@
 -- `rows::eight` meets its contract. Assumes nothing.
 use Prim.Native.Nat.{◌-◌}
-use borrow.Author.Rules.{rules}
-use lib.ListN.{length, drop, drop_of_length-le}
-use Rattle.step.proofs.OnLists.Filling.{Filling, filling_start, filling_next, filling_full, filling_end}
+use lib.ListN.{length, drop}
+use Rattle.step.proofs.OnLists.Filling.{Filling}
 use Rattle.step.proofs.rows.eight.Given as goal
 
 abbrev pub invariant-loop-i : goal.invariant-loop-i

@@ -1,12 +1,7 @@
 -- `rows::entries_of` meets its contract. Assumes nothing.
-use mathlib.Core.Path.{◌≡◌}
 use Prim.Native.Nat.{ℕ, ◌-◌}
-use borrow.Author.Rules.{rules}
-use native.Mathlib.Omega.{arith}
-use lib.ListN.{length}
-use Rattle.sheet.specs.Table.{fit}
 use Rattle.step.specs.declared.Call.{Call}
-use Rattle.step.proofs.OnLists.Rooms.{Made, made_start, made_next, made_end}
+use Rattle.step.proofs.OnLists.Rooms.{Made}
 use Rattle.step.proofs.rows.entries_of.Given as goal
 
 abbrev pub entry_of : Call → ℕ

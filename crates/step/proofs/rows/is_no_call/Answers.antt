@@ -1,5 +1,4 @@
 -- `rows::is_no_call` meets its contract. Assumes nothing.
-use borrow.Author.Rules.{rules}
 use Rattle.step.proofs.rows.is_no_call.Goals as goal
 
 pub returns : goal.returns

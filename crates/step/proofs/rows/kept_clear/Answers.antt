@@ -1,10 +1,8 @@
 -- `rows::kept_clear` meets its contract. Assumes nothing.
 use mathlib.Core.Path.{◌≡◌, refl}
-use Prim.Native.Nat.{◌-◌}
 use borrow.Author.Rules.{rules}
 use native.Mathlib.Omega.{arith}
-use lib.ListN.{length, drop, take}
-use Rattle.sheet.specs.Table.{every}
+use lib.ListN.{length}
 use Rattle.step.specs.declared.Call.{Call}
 use Rattle.step.specs.Padding.{padded}
 use Rattle.step.proofs.OnLists.Turns.{part_end, part_far, part_next, part_fails, padded_is}

@@ -1,13 +1,9 @@
 -- `rows::kept_clear` meets its contract. Assumes nothing.
-use mathlib.Core.Path.{◌≡◌, refl}
+use mathlib.Core.Path.{◌≡◌}
 use Prim.Native.Nat.{◌-◌}
-use borrow.Author.Rules.{rules}
-use native.Mathlib.Omega.{arith}
-use lib.ListN.{length, drop, take}
+use lib.ListN.{drop, take}
 use Rattle.sheet.specs.Table.{every}
-use Rattle.step.specs.declared.Call.{Call}
 use Rattle.step.specs.Padding.{padded}
-use Rattle.step.proofs.OnLists.Turns.{part_end, part_far, part_next, part_fails, padded_is}
 use Rattle.step.proofs.rows.kept_clear.Given as goal
 
 abbrev pub invariant-loop-i : goal.invariant-loop-i

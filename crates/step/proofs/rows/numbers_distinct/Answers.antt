@@ -1,6 +1,5 @@
 -- `rows::numbers_distinct` meets its contract. Assumes nothing.
 use mathlib.Core.Path.{◌∙◌}
-use borrow.Author.Rules.{rules}
 use Rattle.step.specs.declared.Call.{Call}
 use Rattle.step.proofs.OnLists.Turns.{distinct_numbers}
 use Rattle.step.proofs.rows.numbers_distinct.Goals as goal

@@ -1,11 +1,9 @@
 -- `rows::place_in` meets its contract. Assumes nothing.
-use Prim.Native.Nat.{ℕ, ◌-◌}
-use borrow.Author.Rules.{rules}
+use Prim.Native.Nat.{ℕ}
 use native.Mathlib.Omega.{arith}
 use borrow.Author.Tests.{eq-eqb, ne_eqb}
 use lib.Dec.{eqb}
-use lib.ListN.{take}
-use Rattle.step.proofs.OnLists.Searching.{Passed, passed_none, call_end, call_found, call_more}
+use Rattle.step.proofs.OnLists.Searching.{passed_none, call_end, call_found, call_more}
 use Rattle.step.proofs.rows.place_in.Goals as goal
 
 pub loop-i-init : goal.loop-i-init

@@ -1,7 +1,5 @@
 -- `rows::rising` meets its contract. Assumes nothing.
-use Prim.Native.Nat.{◌-◌}
-use borrow.Author.Rules.{rules}
-use Rattle.step.proofs.OnLists.Rising.{Rising, rising_start, rising_end, rising_far, rising_next, rising_fails}
+use Rattle.step.proofs.OnLists.Rising.{rising_start, rising_end, rising_far, rising_next, rising_fails}
 use Rattle.step.proofs.rows.rising.Goals as goal
 
 pub loop-i-init : goal.loop-i-init

@@ -1,7 +1,6 @@
 -- `rows::rising` meets its contract. Assumes nothing.
 use Prim.Native.Nat.{◌-◌}
-use borrow.Author.Rules.{rules}
-use Rattle.step.proofs.OnLists.Rising.{Rising, rising_start, rising_end, rising_far, rising_next, rising_fails}
+use Rattle.step.proofs.OnLists.Rising.{Rising}
 use Rattle.step.proofs.rows.rising.Given as goal
 
 abbrev pub invariant-loop-i : goal.invariant-loop-i

@@ -1,5 +1,4 @@
 -- `rows::zero_from` meets its contract. Assumes nothing.
-use borrow.Author.Rules.{rules}
 use Rattle.step.proofs.rows.zero_from.Goals as goal
 
 pub returns-else-first : goal.returns-else-first
