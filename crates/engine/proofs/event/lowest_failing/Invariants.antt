@@ -1,0 +1,15 @@
+-- `event::lowest_failing` meets its contract. Assumes nothing.
+use mathlib.Core.Path.{◌≡◌}
+use mathlib.Core.Logic.{⊎_elim}
+use Prim.Native.Nat.{◌-◌, ◌+◌, ◌≤◌}
+use borrow.Author.Rules.{rules}
+use native.Mathlib.Omega.{arith}
+use lib.ListN.{length}
+use Rattle.engine.proofs.InWords.Failing.{Judging, judging_start, judging_end, judging_fits, judging_fails, judging_holds}
+use Rattle.engine.proofs.event.lowest_failing.Given as goal
+
+abbrev pub invariant-loop-i : goal.invariant-loop-i
+invariant-loop-i l = Judging l.s l.plan l.row l.at l.program l.monitor l.kept l.count l.number l.evaluated l.i
+
+abbrev pub decreases-loop-i : goal.decreases-loop-i
+decreases-loop-i l = l.count - l.i

@@ -1,0 +1,88 @@
+-- `follow::follow` meets its contract. Assumes nothing.
+use mathlib.Core.Path.{ap, ◌∙◌}
+use Prim.Native.Nat.{ℕ, ◌+◌, ◌-◌, ◌*◌, ◌<◌}
+use native.Mathlib.Omega.{arith}
+use borrow.Author.Rules.{rules}
+use Rattle.sheet.specs.Log.{record_size}
+use Rattle.step.proofs.OnEvents.Following.{log_length, follow_start, follow_end, follow_room}
+use Rattle.engine.specs.Walk.{words}
+use Rattle.engine.proofs.OverLogs.Followed.{works, Held, started_words, clear_start, ends_refused, sum_fits, ends_violated, goes_on}
+use Rattle.engine.proofs.follow.follow.Goals as goal
+
+pub loop-at-init : goal.loop-at-init
+loop-at-init c =
+    let a = c.args in
+    let p = c.requires in
+    let there = c.place-end.ensures.0 ∙ c.word_at.ensures in
+    record {
+      following = follow_start (works a.s.now a.plan.now) a.programs a.log.now p.0 _ (started_words a.s.now _ c.started-run.ensures _ c.initial-variables.ensures) _ there c.place-end.ensures.1;
+      many = c.wide-count.ensures.0;
+      each = ap (λ (k : ℕ). 4 + k) c.four_times-size.ensures ∙ ap record_size c.wide-count.ensures.0;
+      whole = there ∙ log_length a.programs a.log.now p.0;
+      few = omega (arith, c.wide-count.ensures.0, p.1);
+      clear = clear_start _;
+    }
+
+pub given_at-given-requires : goal.given_at-given-requires
+given_at-given-requires c =
+    let a = c.args in
+    let g = c.loop-at.invariant in
+    let room = follow_room (works a.s.now a.plan.now) a.programs a.log.now _ _ _ _ _ g.following c.loop-at-test.true in
+    omega (arith, room, g.whole)
+
+pub read_values-requires : goal.read_values-requires
+read_values-requires c =
+    let a = c.args in
+    let g = c.loop-at.invariant in
+    let room = follow_room (works a.s.now a.plan.now) a.programs a.log.now _ _ _ _ _ g.following c.loop-at-test.true in
+    (omega (arith, room, g.whole, g.many), g.few)
+
+pub overflow_add-i : goal.overflow_add-i
+overflow_add-i c =
+    let g = c.loop-at.invariant in
+    let small : c.loop-at.i + 1 < 4294967296 = omega (arith, g.following.low, g.following.fits, c.loop-at-test.true) in
+    search (rules, small)
+
+pub returns-else-next-eq0 : goal.returns-else-next-eq0
+returns-else-next-eq0 c =
+    let a = c.args in
+    rw c.counted.ensures (let all = ends_refused a.s.now a.plan.now a.programs a.log.now _ _ _ _ _ _ _ _ _ _ c.loop-at.invariant c.loop-at-test.true _ c.given_at-given.ensures _ c.read_values.ensures _ c.advance-next.ensures.value c.if-next-eq0.false in
+    record { answer_value = all.0; count_value = all.1 })
+
+pub overflow_add-total : goal.overflow_add-total
+overflow_add-total c =
+    let a = c.args in
+    let small = sum_fits a.s.now a.plan.now a.programs a.log.now _ _ _ _ _ _ _ _ _ _ c.loop-at.invariant c.loop-at-test.true _ c.given_at-given.ensures _ c.read_values.ensures _ c.advance-next.ensures.value c.if-next-eq0.true _ c.double-total.ensures in
+    search (rules, small)
+
+pub returns-in-Judged : goal.returns-in-Judged
+returns-in-Judged c =
+    let a = c.args in
+    rw c.counted-in-Judged.ensures (let all = ends_violated a.s.now a.plan.now a.programs a.log.now _ _ _ _ _ _ _ _ _ _ c.loop-at.invariant c.loop-at-test.true _ c.given_at-given.ensures _ c.read_values.ensures _ c.advance-next.ensures.value c.if-next-eq0.true _ c.double-total.ensures _ c.in-Judged.is in
+    record { answer_value = all.0; count_value = all.1 })
+
+pub overflow_add-at-in-loop-at : goal.overflow_add-at-in-loop-at
+overflow_add-at-in-loop-at c =
+    let a = c.args in
+    let g = c.loop-at.invariant in
+    let room = follow_room (works a.s.now a.plan.now) a.programs a.log.now _ _ _ _ _ g.following c.loop-at-test.true in
+    let small : c.loop-at.at + (4 + 4 * c.wide-count.result) < 4294967296 = omega (arith, room, g.each, g.following.fits) in
+    search (rules, small)
+
+pub loop-at-smaller : goal.loop-at-smaller
+loop-at-smaller c =
+    let a = c.args in
+    let g = c.loop-at.invariant in
+    let room = follow_room (works a.s.now a.plan.now) a.programs a.log.now _ _ _ _ _ g.following c.loop-at-test.true in
+    omega (arith, room, g.each, g.many)
+
+pub loop-at-preserved : goal.loop-at-preserved
+loop-at-preserved c =
+    let a = c.args in
+    goes_on a.s.now a.plan.now a.programs a.log.now _ _ _ _ _ _ _ _ _ _ c.loop-at.invariant c.loop-at-test.true _ c.given_at-given.ensures _ c.read_values.ensures _ c.advance-next.ensures.value c.if-next-eq0.true _ c.double-total.ensures c.in-Open.is _ _ c.advance-next.ensures.row_after
+
+pub returns : goal.returns
+returns c =
+    let a = c.args in
+    rw c.counted-2.ensures (let all = follow_end (works a.s.now a.plan.now) a.programs a.log.now _ _ _ _ _ c.loop-at.invariant.following c.loop-at-test.false in
+    record { answer_value = all.0; count_value = all.1 })

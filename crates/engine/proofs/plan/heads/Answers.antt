@@ -1,0 +1,9 @@
+-- `plan::heads` meets its contract. Assumes nothing.
+use borrow.Author.Rules.{rules}
+use Rattle.engine.proofs.Plans.Storing.{head_words_lem}
+use Rattle.engine.proofs.plan.heads.Goals as goal
+
+pub returns : goal.returns
+returns c =
+    let a = c.args in
+    head_words_lem a.plan.now a.h a.paired a.last _ _ _ c.short.ensures.0 c.short-2.ensures.0 c.short-3.ensures.0

@@ -1,0 +1,12 @@
+-- `plan::pairs` meets its contract. Assumes nothing.
+use mathlib.Core.Path.{ap, ◌∙◌}
+use Prim.Native.Nat.{ℕ, min}
+use borrow.Author.Rules.{rules}
+use Rattle.engine.proofs.Plans.Linking.{Pairing, pairing_start, pairing_next, pairing_end}
+use Rattle.engine.proofs.plan.pairs.Given as goal
+
+abbrev pub invariant-loop-left : goal.invariant-loop-left
+invariant-loop-left l = Pairing l.s l.conditions l.i l.at l.n l.initial.plan l.plan l.left l.from l.to
+
+abbrev pub decreases-loop-left : goal.decreases-loop-left
+decreases-loop-left l = l.left

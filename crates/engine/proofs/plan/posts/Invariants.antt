@@ -1,0 +1,11 @@
+-- `plan::posts` meets its contract. Assumes nothing.
+use Prim.Native.Nat.{◌-◌}
+use borrow.Author.Rules.{rules}
+use Rattle.engine.proofs.Plans.Linking.{Posting, posting_start, posting_next, posting_end}
+use Rattle.engine.proofs.plan.posts.Given as goal
+
+abbrev pub invariant-loop-i : goal.invariant-loop-i
+invariant-loop-i l = Posting l.s l.conditions l.size l.n l.at l.initial.plan l.plan l.i l.here
+
+abbrev pub decreases-loop-i : goal.decreases-loop-i
+decreases-loop-i l = l.n - l.i

@@ -1,0 +1,13 @@
+-- `plan::start` meets its contract. Assumes nothing.
+use native.Mathlib.Omega.{arith}
+use lib.ListN.{get_or-eq_default}
+use borrow.Author.Rules.{rules}
+use Rattle.engine.proofs.plan.start.Goals as goal
+
+pub returns-then-k-all : goal.returns-then-k-all
+returns-then-k-all c = (rw c.wide-k.ensures.0, omega arith)
+
+pub returns-else-k-all : goal.returns-else-k-all
+returns-else-k-all c =
+    let a = c.args in
+    (rw (get_or-eq_default a.index.now 0 {n = a.i} (omega (arith, c.wide-k.ensures.0, c.if-k-all.false))), omega arith)

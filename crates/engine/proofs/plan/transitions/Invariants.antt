@@ -1,0 +1,15 @@
+-- `plan::transitions` meets its contract. Assumes nothing.
+use native.Mathlib.Omega.{arith}
+use borrow.Author.Rules.{rules}
+use borrow.Author.Tests.{leb-true}
+use lib.Dec.{leb}
+use lib.ListN.{take}
+use Rattle.sheet.proofs.Tables.{every_at}
+use Rattle.engine.proofs.Plans.Linking.{Linking, turn_of, turn_alone, turn_paired, turning_start, turning_few, turning_next, turning_end}
+use Rattle.engine.proofs.plan.transitions.Given as goal
+
+abbrev pub invariant-loop-i : goal.invariant-loop-i
+invariant-loop-i l = Linking (turn_of l.s l.conditions l.actions l.paired) (take l.n l.places) l.initial.plan l.plan l.i
+
+abbrev pub decreases-loop-i : goal.decreases-loop-i
+decreases-loop-i l = l.i

@@ -1,0 +1,11 @@
+-- `row::place_of` meets its contract. Assumes nothing.
+use Prim.Native.Nat.{◌-◌}
+use borrow.Author.Rules.{rules}
+use Rattle.engine.proofs.InWords.Rowing.{Looking, looking_start, looking_end, looking_found, looking_more}
+use Rattle.engine.proofs.row.place_of.Given as goal
+
+abbrev pub invariant-loop-at : goal.invariant-loop-at
+invariant-loop-at l = Looking l.number l.opened l.row l.at
+
+abbrev pub decreases-loop-at : goal.decreases-loop-at
+decreases-loop-at l = l.end - l.at
