@@ -1,5 +1,6 @@
 // One event on a plan of a sheet or a network, in place: the open calls stand in a row of words, the
 // monitor variables beside it.
+#![tactic(auto)]
 
 ghost use Rattle.std.specs.Prelude.{◌≡◌, ◌<◌, ◌≤◌};
 ghost use Rattle.sheet.specs.Bytes.{byte, half};

@@ -26,7 +26,7 @@ use Rattle.step.proofs.OnLists.Sums.{total_map, up_to_map}
 use Rattle.step.proofs.OnEvents.Bridge.{no_transition, first_same, guard_read, full_read, action_acts, action_counts}
 use Rattle.step.proofs.OnLists.Rooms.{take_fitted}
 use Rattle.engine.specs.Plan.{programs_in, cell_of, key_of, first_of, guard_of, gap_of}
-use Rattle.engine.specs.Prepared.{text_place, action_place}
+use Rattle.engine.specs.Prepared.{text_place}
 use Rattle.engine.specs.Walk.{holds_by, count_by, chain, otherwise, found_in, found_count, main_after, variables_after, action_count_after, eight_of}
 use Rattle.engine.specs.Showing.{Fits, found_by, found_count_by}
 use Rattle.engine.proofs.MachineCarried.Numbered.{Both, first_numbered, total_tried, numbers_map, get_d_within}

@@ -11,7 +11,7 @@ use lib.ListN.{length, get_or, take, drop, length-map}
 use lib.Seq.{take_at, take-take, drop-drop, get_or-take, get_or-drop}
 use Rattle.condition.specs.Meaning.{environment}
 use Rattle.sheet.specs.Parts.{Common}
-use Rattle.sheet.specs.Table.{every, fit}
+use Rattle.sheet.specs.Table.{every}
 use Rattle.sheet.specs.Log.{Event}
 use Rattle.sheet.proofs.Tests.{eqb_iff}
 use Rattle.step.specs.declared.Verdict.{Verdict}

@@ -1,5 +1,4 @@
 -- `event::after` meets its contract. Assumes nothing.
-use borrow.Author.Rules.{rules}
 use Rattle.engine.proofs.event.after.Goals as goal
 
 pub returns : goal.returns

@@ -1,15 +1,12 @@
 -- `event::arm` meets its contract. Assumes nothing.
-use mathlib.Core.Path.{◌≡◌, ◌∙◌}
-use mathlib.Core.Logic.{⊎_elim}
+use mathlib.Core.Path.{◌∙◌}
 use mathlib.Core.List.{[]}
-use Prim.Native.Nat.{◌+◌, ◌-◌}
 use native.Mathlib.Omega.{arith}
 use borrow.Author.Rules.{rules}
 use Rattle.condition.specs.Meaning.{environment}
-use Rattle.engine.specs.Walk.{armed_in, armed_count}
 use Rattle.engine.proofs.InWords.Places.{asked_there, number_there, behind_there}
 use Rattle.engine.proofs.InWords.Chains.{armed_past, armed_here, armed_behind, asked_next, asked_fits, asked_end}
-use Rattle.engine.proofs.InWords.Arming.{Storing, storing_start, storing_store, storing_past, storing_leave, storing_end}
+use Rattle.engine.proofs.InWords.Arming.{storing_start, storing_store, storing_past, storing_leave, storing_end}
 use Rattle.engine.proofs.event.arm.Goals as goal
 use Rattle.engine.proofs.event.arm.Goals.{else-count-lt-MOST_ARMED, else-held, then-count-lt-MOST_ARMED, then-held}
 
@@ -34,8 +31,11 @@ loop-i-preserved c =
     let (held, much) = c.holds-held.ensures in
     let next = c.broad-in-loop-i.ensures.0 ∙ behind_there a.plan.now i _ there in
     let all = asked_next a.s.now a.plan.now E _ i _ counted h _ e _ much _ next in
-    elim c.if-held.branch [ then-held w ↦ let t = armed_here a.s.now a.plan.now E i h _ e _ held _ next w.if-held.true in
-    elim w.if-count-lt-MOST_ARMED.branch [ then-count-lt-MOST_ARMED v ↦ rw (w.row-is, w.count-is, w.to-is, v.row-is, v.to-is) (storing_store _ _ _ _ _ _ _ _ g _ _ t _ _ (v.long.ensures.0 ∙ number_there a.plan.now i _ there) v.if-count-lt-MOST_ARMED.true, all) | else-count-lt-MOST_ARMED v ↦ rw (w.row-is, w.count-is, w.to-is, v.row-is, v.to-is) (storing_past _ _ _ _ _ _ _ _ g _ _ t _ v.if-count-lt-MOST_ARMED.false, all) ] | else-held w ↦ rw (w.row-is, w.count-is, w.to-is) (storing_leave _ _ _ _ _ _ _ _ g _ (armed_behind a.s.now a.plan.now E i h _ e _ held _ next w.if-held.false) _, all) ]
+    elim c.if-held.branch [
+      | then-held w ↦ let t = armed_here a.s.now a.plan.now E i h _ e _ held _ next w.if-held.true in
+          elim w.if-count-lt-MOST_ARMED.branch [ then-count-lt-MOST_ARMED v ↦ rw (w.row-is, w.count-is, w.to-is, v.row-is, v.to-is) (storing_store _ _ _ _ _ _ _ _ g _ _ t _ _ (v.long.ensures.0 ∙ number_there a.plan.now i _ there) v.if-count-lt-MOST_ARMED.true, all) | else-count-lt-MOST_ARMED v ↦ rw (w.row-is, w.count-is, w.to-is, v.row-is, v.to-is) (storing_past _ _ _ _ _ _ _ _ g _ _ t _ v.if-count-lt-MOST_ARMED.false, all) ]
+      | else-held w ↦ rw (w.row-is, w.count-is, w.to-is) (storing_leave _ _ _ _ _ _ _ _ g _ (armed_behind a.s.now a.plan.now E i h _ e _ held _ next w.if-held.false) _, all)
+    ]
 
 pub returns : goal.returns
 returns c =

@@ -1,15 +1,10 @@
 -- `event::arm` meets its contract. Assumes nothing.
-use mathlib.Core.Path.{◌≡◌, ◌∙◌}
-use mathlib.Core.Logic.{⊎_elim}
+use mathlib.Core.Path.{◌≡◌}
 use mathlib.Core.List.{[]}
 use Prim.Native.Nat.{◌+◌, ◌-◌}
-use native.Mathlib.Omega.{arith}
-use borrow.Author.Rules.{rules}
 use Rattle.condition.specs.Meaning.{environment}
 use Rattle.engine.specs.Walk.{armed_in, armed_count}
-use Rattle.engine.proofs.InWords.Places.{asked_there, number_there, behind_there}
-use Rattle.engine.proofs.InWords.Chains.{armed_past, armed_here, armed_behind, asked_next, asked_fits, asked_end}
-use Rattle.engine.proofs.InWords.Arming.{Storing, storing_start, storing_store, storing_past, storing_leave, storing_end}
+use Rattle.engine.proofs.InWords.Arming.{Storing}
 use Rattle.engine.proofs.event.arm.Given as goal
 
 abbrev pub invariant-loop-i : goal.invariant-loop-i

@@ -1,5 +1,4 @@
 -- `event::candidate` meets its contract. Assumes nothing.
-use borrow.Author.Rules.{rules}
 use borrow.Author.Tests.{eq-eqb, ne_eqb}
 use lib.ListN.{get_or}
 use Rattle.engine.proofs.event.candidate.Goals as goal

@@ -1,10 +1,7 @@
 -- `event::find` meets its contract. Assumes nothing.
 use mathlib.Core.Path.{◌∙◌}
-use mathlib.Core.List.{[]}
-use Prim.Native.Nat.{◌-◌}
 use borrow.Author.Rules.{rules}
-use Rattle.condition.specs.Meaning.{environment}
-use Rattle.engine.proofs.InWords.Chains.{Seeking, seeking_start, seeking_fits, seeking_found, seeking_next, seeking_end}
+use Rattle.engine.proofs.InWords.Chains.{seeking_start, seeking_fits, seeking_found, seeking_next, seeking_end}
 use Rattle.engine.proofs.InWords.Places.{guard_there, gap_there}
 use Rattle.engine.proofs.event.find.Goals as goal
 

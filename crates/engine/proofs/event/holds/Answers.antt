@@ -1,5 +1,4 @@
 -- `event::holds` meets its contract. Assumes nothing.
-use borrow.Author.Rules.{rules}
 use borrow.Author.Tests.{eq-eqb, ne_eqb}
 use Rattle.engine.proofs.event.holds.Goals as goal
 

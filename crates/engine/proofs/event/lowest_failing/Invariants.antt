@@ -1,11 +1,6 @@
 -- `event::lowest_failing` meets its contract. Assumes nothing.
-use mathlib.Core.Path.{◌≡◌}
-use mathlib.Core.Logic.{⊎_elim}
-use Prim.Native.Nat.{◌-◌, ◌+◌, ◌≤◌}
-use borrow.Author.Rules.{rules}
-use native.Mathlib.Omega.{arith}
-use lib.ListN.{length}
-use Rattle.engine.proofs.InWords.Failing.{Judging, judging_start, judging_end, judging_fits, judging_fails, judging_holds}
+use Prim.Native.Nat.{◌-◌}
+use Rattle.engine.proofs.InWords.Failing.{Judging}
 use Rattle.engine.proofs.event.lowest_failing.Given as goal
 
 abbrev pub invariant-loop-i : goal.invariant-loop-i

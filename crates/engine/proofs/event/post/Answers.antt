@@ -1,5 +1,4 @@
 -- `event::post` meets its contract. Assumes nothing.
-use borrow.Author.Rules.{rules}
 use borrow.Author.Tests.{lt-ltb, le-ltb}
 use Rattle.engine.proofs.event.post.Goals as goal
 

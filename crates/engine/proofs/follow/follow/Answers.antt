@@ -1,12 +1,11 @@
 -- `follow::follow` meets its contract. Assumes nothing.
 use mathlib.Core.Path.{ap, ◌∙◌}
-use Prim.Native.Nat.{ℕ, ◌+◌, ◌-◌, ◌*◌, ◌<◌}
+use Prim.Native.Nat.{ℕ, ◌+◌, ◌*◌, ◌<◌}
 use native.Mathlib.Omega.{arith}
 use borrow.Author.Rules.{rules}
 use Rattle.sheet.specs.Log.{record_size}
 use Rattle.step.proofs.OnEvents.Following.{log_length, follow_start, follow_end, follow_room}
-use Rattle.engine.specs.Walk.{words}
-use Rattle.engine.proofs.OverLogs.Followed.{works, Held, started_words, clear_start, ends_refused, sum_fits, ends_violated, goes_on}
+use Rattle.engine.proofs.OverLogs.Followed.{works, started_words, clear_start, ends_refused, sum_fits, ends_violated, goes_on}
 use Rattle.engine.proofs.follow.follow.Goals as goal
 
 pub loop-at-init : goal.loop-at-init

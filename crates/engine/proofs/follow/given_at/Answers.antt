@@ -1,5 +1,4 @@
 -- `follow::given_at` meets its contract. Assumes nothing.
-use borrow.Author.Rules.{rules}
 use Rattle.engine.proofs.OverLogs.Followed.{given_read}
 use Rattle.engine.proofs.follow.given_at.Goals as goal
 

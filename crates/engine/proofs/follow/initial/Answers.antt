@@ -1,5 +1,4 @@
 -- `follow::initial` meets its contract. Assumes nothing.
-use borrow.Author.Rules.{rules}
 use Rattle.engine.proofs.OverLogs.Followed.{variables_started}
 use Rattle.engine.proofs.follow.initial.Goals as goal
 

@@ -1,8 +1,6 @@
 -- `follow::read_values` meets its contract. Assumes nothing.
-use Prim.Native.Nat.{◌-◌}
-use borrow.Author.Rules.{rules}
 use native.Mathlib.Omega.{arith}
-use Rattle.engine.proofs.OverLogs.Followed.{Filling, filling_start, filling_next, filling_end}
+use Rattle.engine.proofs.OverLogs.Followed.{filling_start, filling_next, filling_end}
 use Rattle.engine.proofs.follow.read_values.Goals as goal
 
 pub loop-i-init : goal.loop-i-init

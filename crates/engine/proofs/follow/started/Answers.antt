@@ -1,5 +1,4 @@
 -- `follow::started` meets its contract. Assumes nothing.
-use borrow.Author.Rules.{rules}
 use Rattle.engine.proofs.OverLogs.Followed.{run_started}
 use Rattle.engine.proofs.follow.started.Goals as goal
 

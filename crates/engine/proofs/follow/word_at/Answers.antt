@@ -1,5 +1,4 @@
 -- `follow::word_at` meets its contract. Assumes nothing.
-use borrow.Author.Rules.{rules}
 use native.Mathlib.Omega.{arith}
 use Rattle.condition.specs.Word.{big_endian}
 use Rattle.engine.proofs.follow.word_at.Goals as goal

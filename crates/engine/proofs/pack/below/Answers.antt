@@ -1,5 +1,4 @@
 -- `pack::below` meets its contract. Assumes nothing.
-use borrow.Author.Rules.{rules}
 use Rattle.engine.proofs.pack.below.Goals as goal
 
 pub returns-then-first : goal.returns-then-first

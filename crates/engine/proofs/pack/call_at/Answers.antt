@@ -1,5 +1,4 @@
 -- `pack::call_at` meets its contract. Assumes nothing.
-use borrow.Author.Rules.{rules}
 use Rattle.engine.proofs.Packed.{no_call_there, call_there}
 use Rattle.engine.proofs.pack.call_at.Goals as goal
 

@@ -1,5 +1,4 @@
 -- `plan::action` meets its contract. Assumes nothing.
-use borrow.Author.Rules.{rules}
 use Rattle.engine.proofs.Plans.Storing.{action_nothing, action_something}
 use Rattle.engine.proofs.plan.action.Goals as goal
 

@@ -1,5 +1,4 @@
 -- `plan::heads` meets its contract. Assumes nothing.
-use borrow.Author.Rules.{rules}
 use Rattle.engine.proofs.Plans.Storing.{head_words_lem}
 use Rattle.engine.proofs.plan.heads.Goals as goal
 

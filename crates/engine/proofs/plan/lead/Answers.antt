@@ -1,7 +1,6 @@
 -- `plan::lead` meets its contract. Assumes nothing.
 use mathlib.Core.Path.{sym, ◌∙◌}
 use native.Mathlib.Omega.{arith}
-use borrow.Author.Rules.{rules}
 use borrow.Author.Tests.{eq-eqb, ne_eqb}
 use Rattle.sheet.specs.Bytes.{byte}
 use Rattle.engine.proofs.plan.lead.Goals as goal

@@ -1,6 +1,5 @@
 -- `plan::of_network` meets its contract. Assumes nothing.
 use native.Mathlib.Omega.{arith}
-use borrow.Author.Rules.{rules}
 use Rattle.engine.proofs.Plans.Preparing.{network_near, network_made}
 use Rattle.engine.proofs.plan.of_network.Goals as goal
 

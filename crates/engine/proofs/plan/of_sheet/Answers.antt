@@ -1,6 +1,5 @@
 -- `plan::of_sheet` meets its contract. Assumes nothing.
 use native.Mathlib.Omega.{arith}
-use borrow.Author.Rules.{rules}
 use Rattle.engine.proofs.Plans.Preparing.{sheet_near, sheet_made}
 use Rattle.engine.proofs.plan.of_sheet.Goals as goal
 

@@ -1,8 +1,5 @@
 -- `plan::pairs` meets its contract. Assumes nothing.
-use mathlib.Core.Path.{ap, ◌∙◌}
-use Prim.Native.Nat.{ℕ, min}
-use borrow.Author.Rules.{rules}
-use Rattle.engine.proofs.Plans.Linking.{Pairing, pairing_start, pairing_next, pairing_end}
+use Rattle.engine.proofs.Plans.Linking.{Pairing}
 use Rattle.engine.proofs.plan.pairs.Given as goal
 
 abbrev pub invariant-loop-left : goal.invariant-loop-left

@@ -1,8 +1,6 @@
 -- `plan::places` meets its contract. Assumes nothing.
-use Prim.Native.Nat.{◌-◌}
 use native.Mathlib.Omega.{arith}
-use borrow.Author.Rules.{rules}
-use Rattle.engine.proofs.Plans.Linking.{Placing, placing_start, placing_near, placing_next, placing_end}
+use Rattle.engine.proofs.Plans.Linking.{placing_start, placing_near, placing_next, placing_end}
 use Rattle.engine.proofs.plan.places.Goals as goal
 
 pub loop-i-init : goal.loop-i-init

@@ -1,7 +1,5 @@
 -- `plan::posts` meets its contract. Assumes nothing.
-use Prim.Native.Nat.{◌-◌}
-use borrow.Author.Rules.{rules}
-use Rattle.engine.proofs.Plans.Linking.{Posting, posting_start, posting_next, posting_end}
+use Rattle.engine.proofs.Plans.Linking.{posting_start, posting_next, posting_end}
 use Rattle.engine.proofs.plan.posts.Goals as goal
 
 pub loop-i-init : goal.loop-i-init

@@ -1,7 +1,6 @@
 -- `plan::posts` meets its contract. Assumes nothing.
 use Prim.Native.Nat.{◌-◌}
-use borrow.Author.Rules.{rules}
-use Rattle.engine.proofs.Plans.Linking.{Posting, posting_start, posting_next, posting_end}
+use Rattle.engine.proofs.Plans.Linking.{Posting}
 use Rattle.engine.proofs.plan.posts.Given as goal
 
 abbrev pub invariant-loop-i : goal.invariant-loop-i

@@ -3,7 +3,6 @@ use mathlib.Core.Path.{◌≡◌, ap, ◌∙◌}
 use Prim.Native.Nat.{ℕ, ◌+◌, ◌*◌}
 use native.Mathlib.Omega.{arith}
 use Rattle.sheet.proofs.Readers.Loops.{byte_past}
-use borrow.Author.Rules.{rules}
 use Rattle.engine.proofs.plan.size.Goals as goal
 
 pub returns-then-paired : goal.returns-then-paired

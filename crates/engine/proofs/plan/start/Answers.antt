@@ -1,7 +1,6 @@
 -- `plan::start` meets its contract. Assumes nothing.
 use native.Mathlib.Omega.{arith}
 use lib.ListN.{get_or-eq_default}
-use borrow.Author.Rules.{rules}
 use Rattle.engine.proofs.plan.start.Goals as goal
 
 pub returns-then-k-all : goal.returns-then-k-all

@@ -1,5 +1,4 @@
 -- `plan::text` meets its contract. Assumes nothing.
-use borrow.Author.Rules.{rules}
 use Rattle.engine.proofs.Plans.Storing.{text_nothing, text_something}
 use Rattle.engine.proofs.plan.text.Goals as goal
 

@@ -1,5 +1,4 @@
 -- `plan::transition` meets its contract. Assumes nothing.
-use borrow.Author.Rules.{rules}
 use Rattle.engine.proofs.Plans.Storing.{transition_words_lem}
 use Rattle.engine.proofs.plan.transition.Goals as goal
 

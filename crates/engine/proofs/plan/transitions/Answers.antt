@@ -1,11 +1,9 @@
 -- `plan::transitions` meets its contract. Assumes nothing.
 use native.Mathlib.Omega.{arith}
-use borrow.Author.Rules.{rules}
 use borrow.Author.Tests.{leb-true}
 use lib.Dec.{leb}
-use lib.ListN.{take}
 use Rattle.sheet.proofs.Tables.{every_at}
-use Rattle.engine.proofs.Plans.Linking.{Linking, turn_of, turn_alone, turn_paired, turning_start, turning_few, turning_next, turning_end}
+use Rattle.engine.proofs.Plans.Linking.{turn_alone, turn_paired, turning_start, turning_few, turning_next, turning_end}
 use Rattle.engine.proofs.plan.transitions.Goals as goal
 
 pub loop-i-init : goal.loop-i-init

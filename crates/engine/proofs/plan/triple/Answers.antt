@@ -1,5 +1,4 @@
 -- `plan::triple` meets its contract. Assumes nothing.
-use borrow.Author.Rules.{rules}
 use Rattle.engine.proofs.Plans.Storing.{triple_words_lem}
 use Rattle.engine.proofs.plan.triple.Goals as goal
 

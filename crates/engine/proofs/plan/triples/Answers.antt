@@ -1,7 +1,6 @@
 -- `plan::triples` meets its contract. Assumes nothing.
 use native.Mathlib.Omega.{arith}
-use borrow.Author.Rules.{rules}
-use Rattle.engine.proofs.Plans.Linking.{Tripling, tripling_start, tripling_few, tripling_next, tripling_end}
+use Rattle.engine.proofs.Plans.Linking.{tripling_start, tripling_few, tripling_next, tripling_end}
 use Rattle.engine.proofs.plan.triples.Goals as goal
 
 pub loop-i-init : goal.loop-i-init

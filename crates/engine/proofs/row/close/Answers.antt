@@ -1,10 +1,9 @@
 -- `row::close` meets its contract. Assumes nothing.
 use mathlib.Core.Path.{◌≡◌}
-use Prim.Native.Nat.{◌-◌}
 use borrow.Author.Rules.{rules}
 use native.Mathlib.Omega.{arith}
 use lib.ListN.{length}
-use Rattle.engine.proofs.InWords.Rowing.{Closing, closing_start, closing_end, closing_next}
+use Rattle.engine.proofs.InWords.Rowing.{closing_start, closing_end, closing_next}
 use Rattle.engine.proofs.row.close.Goals as goal
 
 pub loop-from-init : goal.loop-from-init

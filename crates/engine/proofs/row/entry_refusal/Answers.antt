@@ -1,5 +1,4 @@
 -- `row::entry_refusal` meets its contract. Assumes nothing.
-use borrow.Author.Rules.{rules}
 use Rattle.engine.proofs.InWords.Refused.{entry_again, entry_free, entry_full}
 use Rattle.engine.proofs.row.entry_refusal.Goals as goal
 

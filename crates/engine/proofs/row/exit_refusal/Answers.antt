@@ -1,5 +1,4 @@
 -- `row::exit_refusal` meets its contract. Assumes nothing.
-use borrow.Author.Rules.{rules}
 use native.Mathlib.Omega.{arith}
 use Rattle.engine.proofs.InWords.Refused.{exit_free, exit_other, exit_unknown}
 use Rattle.engine.proofs.row.exit_refusal.Goals as goal

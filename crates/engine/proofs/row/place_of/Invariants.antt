@@ -1,7 +1,6 @@
 -- `row::place_of` meets its contract. Assumes nothing.
 use Prim.Native.Nat.{◌-◌}
-use borrow.Author.Rules.{rules}
-use Rattle.engine.proofs.InWords.Rowing.{Looking, looking_start, looking_end, looking_found, looking_more}
+use Rattle.engine.proofs.InWords.Rowing.{Looking}
 use Rattle.engine.proofs.row.place_of.Given as goal
 
 abbrev pub invariant-loop-at : goal.invariant-loop-at

@@ -1,5 +1,4 @@
 -- `row::refusal` meets its contract. Assumes nothing.
-use borrow.Author.Rules.{rules}
 use native.Mathlib.Omega.{arith}
 use Rattle.engine.proofs.InWords.Refused.{refused_judged, refused_form, refused_last, refused_entry, refused_exit}
 use Rattle.engine.proofs.row.refusal.Goals as goal
