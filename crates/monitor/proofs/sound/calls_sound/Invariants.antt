@@ -1,0 +1,22 @@
+-- `sound::calls_sound` meets its contract. Assumes nothing.
+use mathlib.Core.Path.{◌≡◌, refl, sym, ◌∙◌}
+use Prim.Native.Nat.{◌-◌}
+use borrow.Author.Rules.{rules}
+use native.Mathlib.Omega.{arith}
+use lib.ListN.{length, take, drop}
+use Rattle.sheet.specs.Table.{every}
+use Rattle.sheet.specs.Decode.{sheet_of}
+use Rattle.step.specs.Lists.{beside}
+use Rattle.monitor.specs.Sound.{call_sound}
+use Rattle.monitor.specs.Padded.{unpad_armed}
+use Rattle.monitor.proofs.SoundTests.Checks.{last_few, call_is}
+use Rattle.monitor.proofs.SoundTests.Testing.{pair_end, pair_far, pair_next, pair_fails}
+use Rattle.monitor.proofs.sound.calls_sound.Given as goal
+
+abbrev pub invariant-loop-i : goal.invariant-loop-i
+invariant-loop-i l =
+    every (call_sound (sheet_of l.s)) (drop l.i (beside (unpad_armed l.h.programs) (take l.opened l.calls) (take l.opened l.arms)))
+    ≡ every (call_sound (sheet_of l.s)) (beside (unpad_armed l.h.programs) (take l.opened l.calls) (take l.opened l.arms))
+
+abbrev pub decreases-loop-i : goal.decreases-loop-i
+decreases-loop-i l = l.opened - l.i

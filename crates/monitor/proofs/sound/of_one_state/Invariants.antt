@@ -1,0 +1,23 @@
+-- `sound::of_one_state` meets its contract. Assumes nothing.
+use mathlib.Core.Path.{◌≡◌, refl}
+use mathlib.Core.Bool.{Bool}
+use mathlib.Core.List.{List}
+use Prim.Native.Nat.{ℕ, ◌-◌}
+use borrow.Author.Rules.{rules}
+use borrow.Author.Tests.{eq-eqb, ne_eqb}
+use native.Mathlib.Omega.{arith}
+use lib.Dec.{eqb}
+use lib.ListN.{length, get_or, take, drop}
+use Rattle.sheet.specs.Table.{every}
+use Rattle.step.proofs.OnLists.Turns.{part_end, part_far, part_next, part_fails}
+use Rattle.monitor.proofs.SoundTests.Testing.{state_is, one_state}
+use Rattle.monitor.proofs.sound.of_one_state.Given as goal
+
+abbrev pub test : List ℕ → List ℕ → ℕ → Bool
+test states triples i = eqb (get_or states i 0) (get_or states (get_or triples 0 0) 0)
+
+abbrev pub invariant-loop-i : goal.invariant-loop-i
+invariant-loop-i l = every (test l.states l.triples) (drop l.i (take l.count l.triples)) ≡ every (test l.states l.triples) (take l.count l.triples)
+
+abbrev pub decreases-loop-i : goal.decreases-loop-i
+decreases-loop-i l = l.count - l.i

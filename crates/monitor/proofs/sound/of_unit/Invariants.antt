@@ -1,0 +1,22 @@
+-- `sound::of_unit` meets its contract. Assumes nothing.
+use mathlib.Core.Path.{◌≡◌, refl}
+use mathlib.Core.Bool.{Bool, ◌&&◌}
+use mathlib.Core.List.{List}
+use Prim.Native.Nat.{ℕ, ◌-◌}
+use borrow.Author.Rules.{rules}
+use native.Mathlib.Omega.{arith}
+use lib.Dec.{eqb, ltb}
+use lib.ListN.{length, get_or, take, drop}
+use Rattle.sheet.specs.Table.{every}
+use Rattle.step.proofs.OnLists.Turns.{part_end, part_far, part_next, part_fails}
+use Rattle.monitor.proofs.SoundTests.Testing.{unit_is}
+use Rattle.monitor.proofs.sound.of_unit.Given as goal
+
+abbrev pub test : List ℕ → ℕ → ℕ → ℕ → Bool
+test units n unit i = ltb i n && eqb (get_or units i 0) unit
+
+abbrev pub invariant-loop-i : goal.invariant-loop-i
+invariant-loop-i l = every (test l.units l.n l.unit) (drop l.i (take l.count l.triples)) ≡ every (test l.units l.n l.unit) (take l.count l.triples)
+
+abbrev pub decreases-loop-i : goal.decreases-loop-i
+decreases-loop-i l = l.count - l.i

@@ -1,0 +1,14 @@
+-- `sound::opened_in` meets its contract. Assumes nothing.
+use mathlib.Core.Path.{◌≡◌}
+use borrow.Author.Rules.{rules}
+use lib.ListN.{length}
+use Rattle.monitor.proofs.SoundTests.Checks.{length_mapped}
+use Rattle.monitor.proofs.sound.opened_in.Goals as goal
+
+pub returns : goal.returns
+returns c =
+    let w = c.args.state in
+    let v : length w.variables ≡ 4 = search rules in
+    let long : length w.calls ≡ 16 = search (rules, length_mapped) in
+    let same : length w.arms ≡ 16 = search (rules, length_mapped) in
+    (c.wide.ensures.0, v, long, same)

@@ -1,0 +1,13 @@
+-- `pack::checkers_of` meets its contract. Assumes nothing.
+use Prim.Native.Nat.{◌-◌, ◌<◌}
+use native.Mathlib.Omega.{arith}
+use borrow.Author.Rules.{rules}
+use Rattle.step.proofs.OnLists.Filling.{filling_start}
+use Rattle.network.proofs.Offers.Packing.{Showing, showing_next, showing_end}
+use Rattle.network.proofs.pack.checkers_of.Given as goal
+
+abbrev pub invariant-loop-i : goal.invariant-loop-i
+invariant-loop-i l = Showing l.words l.living l.out l.i
+
+abbrev pub decreases-loop-i : goal.decreases-loop-i
+decreases-loop-i l = l.living - l.i

@@ -1,0 +1,16 @@
+-- `sound::entries_carried` meets its contract. Assumes nothing.
+use mathlib.Core.Path.{◌≡◌, refl, sym, ◌∙◌}
+use Prim.Native.Nat.{◌-◌}
+use borrow.Author.Rules.{rules}
+use native.Mathlib.Omega.{arith}
+use lib.ListN.{length, take, drop}
+use Rattle.sheet.specs.Table.{every}
+use Rattle.step.proofs.OnLists.Turns.{part_end, part_far, part_next, part_fails}
+use Rattle.network.specs.Walk.{carried_in}
+use Rattle.network.proofs.sound.entries_carried.Given as goal
+
+abbrev pub invariant-loop-i : goal.invariant-loop-i
+invariant-loop-i l = every (carried_in (take l.opened l.calls)) (drop l.i (take l.living l.checkers)) ≡ every (carried_in (take l.opened l.calls)) (take l.living l.checkers)
+
+abbrev pub decreases-loop-i : goal.decreases-loop-i
+decreases-loop-i l = l.living - l.i

@@ -1,0 +1,17 @@
+-- `sound::on_calls` meets its contract. Assumes nothing.
+use mathlib.Core.Path.{◌≡◌, refl, sym, ap, ◌∙◌}
+use mathlib.Core.List.{List}
+use Prim.Native.Nat.{ℕ, ◌-◌}
+use borrow.Author.Rules.{rules}
+use native.Mathlib.Omega.{arith}
+use lib.ListN.{length, take, drop}
+use Rattle.sheet.specs.Table.{every}
+use Rattle.step.proofs.OnLists.Turns.{part_end, part_far, part_next, part_fails}
+use Rattle.network.specs.Walk.{on_call_of}
+use Rattle.network.proofs.sound.on_calls.Given as goal
+
+abbrev pub invariant-loop-i : goal.invariant-loop-i
+invariant-loop-i l = every (on_call_of l.units l.n (take l.opened l.calls)) (drop l.i (take l.living l.checkers)) ≡ every (on_call_of l.units l.n (take l.opened l.calls)) (take l.living l.checkers)
+
+abbrev pub decreases-loop-i : goal.decreases-loop-i
+decreases-loop-i l = l.living - l.i
