@@ -1,0 +1,14 @@
+-- `card::size_at` meets its contract. Assumes nothing.
+use mathlib.Core.Path.{ap, ◌∙◌}
+use Prim.Native.Nat.{ℕ, ◌+◌, ◌*◌}
+use native.Mathlib.Omega.{arith}
+use borrow.Author.Rules.{rules}
+use Rattle.sheet.proofs.Readers.Loops.{byte_past}
+use Rattle.translation.proofs.card.size_at.Goals as goal
+
+pub returns : goal.returns
+returns c =
+    let a = c.args in
+    let count = c.twice.ensures in
+    let byte = c.byte_at.ensures ∙ byte_past a.n.now a.place 6 in
+    (ap (λ (k : ℕ). 7 + k) count.0 ∙ ap (λ (k : ℕ). 7 + 2 * k) byte, omega (arith, count.1))

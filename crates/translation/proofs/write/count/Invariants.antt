@@ -1,0 +1,12 @@
+-- `write::count` meets its contract. Assumes nothing.
+use mathlib.Core.Logic.{⊎_elim}
+use Prim.Native.Nat.{◌-◌}
+use borrow.Author.Rules.{rules}
+use Rattle.translation.proofs.Sheets.Pairing.{Tally, tally_start, tally_more, tally_same, tally_end}
+use Rattle.translation.proofs.write.count.Given as goal
+
+abbrev pub invariant-loop-i : goal.invariant-loop-i
+invariant-loop-i l = Tally l.state l.unit l.f.count l.s l.f.triples l.found l.i l.place
+
+abbrev pub decreases-loop-i : goal.decreases-loop-i
+decreases-loop-i l = l.f.count - l.i

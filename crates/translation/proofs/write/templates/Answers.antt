@@ -1,0 +1,27 @@
+-- `write::templates` meets its contract. Assumes nothing.
+use mathlib.Core.Path.{refl}
+use mathlib.Core.List.{List, map}
+use Prim.Native.Nat.{ℕ}
+use native.Mathlib.Omega.{arith}
+use borrow.Author.Rules.{rules}
+use Rattle.sheet.specs.declared.Triple.{Triple}
+use Rattle.sheet.specs.Decode.{triple_form}
+use Rattle.sheet.specs.Table.{table}
+use Rattle.sheet.specs.Encode.{template_bytes, written}
+use Rattle.translation.specs.Translate.{template_of}
+use Rattle.translation.proofs.Writing.{writes_length}
+use Rattle.translation.proofs.Sheets.Putting.{Putting, putting_start, putting_room, putting_next, putting_end, written_map}
+use Rattle.translation.proofs.write.templates.Goals as goal
+use Rattle.translation.proofs.write.templates.Invariants.{bytes}
+
+pub loop-left-init : goal.loop-left-init
+loop-left-init c = putting_start bytes triple_form _ _ _ _ _ _ (written_map template_bytes template_of _) c.requires.0 (search rules)
+
+pub put_two-here-requires : goal.put_two-here-requires
+put_two-here-requires c = putting_room bytes triple_form _ _ _ _ _ _ _ _ c.loop-left.invariant 4 (λ s. refl) c.loop-left-test.true _ c.triple_at-t.ensures c.requires.1
+
+pub loop-left-preserved : goal.loop-left-preserved
+loop-left-preserved c = putting_next bytes triple_form _ _ _ _ _ _ _ _ c.loop-left.invariant 4 (λ s. refl) c.loop-left-test.true _ c.triple_at-t.ensures (omega arith) _ _ c.put_two-here.ensures
+
+pub returns : goal.returns
+returns c = putting_end bytes triple_form _ _ _ _ _ _ _ _ c.loop-left.invariant c.loop-left-test.false

@@ -1,0 +1,16 @@
+-- `write::words` meets its contract. Assumes nothing.
+use mathlib.Core.Path.{refl}
+use borrow.Author.Rules.{rules}
+use native.Mathlib.Omega.{arith}
+use Rattle.sheet.specs.Table.{table}
+use Rattle.sheet.specs.Decode.{word_form}
+use Rattle.sheet.specs.Encode.{word_bytes, written}
+use Rattle.translation.proofs.Writing.{writes_length}
+use Rattle.translation.proofs.Sheets.Putting.{Putting, putting_start, putting_room, putting_next, putting_end}
+use Rattle.translation.proofs.write.words.Given as goal
+
+abbrev pub invariant-loop-left : goal.invariant-loop-left
+invariant-loop-left l = Putting word_bytes word_form l.s l.initial.out l.at (written word_bytes (table word_form l.n l.s l.from)) l.out l.left l.place l.here
+
+abbrev pub decreases-loop-left : goal.decreases-loop-left
+decreases-loop-left l = l.left
