@@ -1,0 +1,17 @@
+-- `offer_at` meets its contract. Assumes nothing.
+use borrow.Author.Rules.{rules}
+use Rattle.replay.proofs.Following.{values_many, offered_there}
+use Rattle.replay.proofs.offer_at.Goals as goal
+
+pub slice_bounds-offer-end : goal.slice_bounds-offer-end
+slice_bounds-offer-end c =
+    let b = c in
+    let a = b.args in
+    values_many a.programs a.log.now a.at b.requires.0 _ c.record_at-event.ensures _ c.words_at-words.ensures
+
+pub returns : goal.returns
+returns c =
+    let b = c in
+    let a = b.args in
+    let all = offered_there a.programs a.log.now a.at b.requires.0 _ c.record_at-event.ensures _ c.words_at-words.ensures _ _ c.offer.result c.offer.ensures.answer_value c.offer.ensures.state_value in
+    record { answer_value = all.0; state_value = all.1 }

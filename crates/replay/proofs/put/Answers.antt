@@ -1,0 +1,8 @@
+-- `put` meets its contract. Assumes nothing.
+use mathlib.Core.Path.{sym}
+use borrow.Author.Rules.{rules}
+use lib.Seq.{set_out}
+use Rattle.replay.proofs.put.Goals as goal
+
+pub returns-else-place-out : goal.returns-else-place-out
+returns-else-place-out c = sym (set_out _ _ _ c.if-place-out.false)
