@@ -4,7 +4,7 @@ use mathlib.Core.Bool.{Bool, true, false, not, cond, ◌&&◌, ◌||◌}
 use mathlib.Mathlib.Data.Bool.Basic.{or-eq-false-eq-eq-false-and-eq-false as or-clear}
 use mathlib.Core.Option.{Option, none, some}
 use mathlib.Core.List.{List, [], ◌∷◌, ◌++◌, append_assoc, append-nil}
-use Prim.Native.Nat.{ℕ, ◌+◌}
+use Prim.Native.Nat.{ℕ}
 use native.Mathlib.Omega.{arith}
 use lib.Dec.{eqb, ltb}
 use lib.ListN.{length}
@@ -15,7 +15,7 @@ use Rattle.condition.specs.Answer.{whether}
 use Rattle.condition.proofs.Parsing.{condition_whole, parse_lent, parse_bytes}
 use Rattle.bench.specs.Bench.{condition_has_constant, value_has_constant, lending, is_test_condition}
 use Rattle.bench.proofs.Tests.{none_true, pick}
-use Rattle.bench.proofs.LeastBytes.InOrder.{Part, a_condition, a_value, a_number, behind_condition, behind_value, behind_list, behind, counted, admits, none_admits}
+use Rattle.bench.proofs.LeastBytes.InOrder.{Part, a_condition, a_value, a_number, behind_condition, behind_value, behind_list, counted, admits, none_admits}
 use Rattle.bench.proofs.LeastBytes.Holding.{fit_in}
 
 -- One condition is still to be written.

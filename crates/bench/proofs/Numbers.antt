@@ -10,7 +10,6 @@ use lib.ListN.{length, drop, replicate}
 use lib.Seq.{drop_at}
 use borrow.Author.Tests.{ltb-true, le-leb, eqb-true, eqb-false}
 use Rattle.condition.specs.Parse.{condition_operator, value_operator}
-use Rattle.bench.specs.declared.Listed.TheVariants as listed
 use Rattle.bench.specs.Bench.{is_test_condition, precedes, in_range, padded, is_given, next_refusal}
 use Rattle.bench.specs.Claims.{GoesOn, Answered, AnsweredEnds, Counts, numbers, Numbers, OfThreeBytes}
 use Rattle.bench.specs.Walk.{one_condition, after, fits, seek, least, completed, following}

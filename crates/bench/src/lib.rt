@@ -1,5 +1,6 @@
 // Test conditions for the card's bench: every condition of n bytes with one program variable, no
 // monitor variables, no constants and no values at entry, in byte order.
+#![tactic(auto)]
 
 ghost use Rattle.std.specs.Prelude.{◌≡◌};
 ghost use Rattle.bench.specs.Bench.{FirstAnswer, NextAnswer, in_range};

@@ -1,4 +1,5 @@
 // The engine on a sheet: its state, one event, a log.
+#![tactic(auto)]
 
 ghost use Rattle.std.specs.Prelude.{◌≡◌};
 ghost use Rattle.monitor.specs.Answers.{offer_of, run_of, count_of, run_count_of};

@@ -1,4 +1,5 @@
 // The engine on a network: its state, one event, a log.
+#![tactic(auto)]
 
 ghost use Rattle.std.specs.Prelude.{◌≡◌};
 ghost use Rattle.sheet.specs.Decode.{network_of};

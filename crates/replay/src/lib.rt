@@ -1,4 +1,5 @@
 // The records of a log, offered one after another to a sheet's network, past refusals.
+#![tactic(auto)]
 
 ghost use Rattle.std.specs.Prelude.{◌≡◌, ◌+◌, ◌≤◌, ◌<◌, set, drop};
 ghost use Rattle.std.proofs.lemmas.List.Edits.{sets};

@@ -1,4 +1,5 @@
 // A sheet's network in either form, written into a lent buffer.
+#![tactic(auto)]
 
 ghost use Rattle.std.specs.Prelude.{◌≡◌};
 ghost use Rattle.translation.specs.Answer.{translated_paper, translated_of, buffer_of, card_of, card_buffer_of};

@@ -1,5 +1,4 @@
 -- `first` meets its contract. Assumes nothing.
-use borrow.Author.Rules.{rules}
 use native.Mathlib.Omega.{arith}
 use Rattle.bench.proofs.Answering.{in_range_lem, first_refused, first_answer}
 use Rattle.bench.proofs.first.Goals as goal

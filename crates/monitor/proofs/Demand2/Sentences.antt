@@ -11,7 +11,7 @@ use lib.ListN.{length, length-append, length-map}
 use Rattle.sheet.specs.Parts.{Sheet}
 use Rattle.sheet.specs.Log.{Event}
 use Rattle.step.specs.Lists.{Among, keep, any}
-use Rattle.step.specs.Calls.{Call, is_entry, is_exit, open_for, most_calls, last_position, refusals, lowest}
+use Rattle.step.specs.Calls.{Call, is_entry, open_for, most_calls, last_position, refusals, lowest}
 use Rattle.step.proofs.OnLists.Lists.{keep_without, any_keep, any_map}
 use Rattle.step.proofs.OnLists.Keeping.{length_keep}
 use Rattle.step.proofs.OnEvents.Refusing as Refusing
@@ -19,7 +19,7 @@ use Rattle.monitor.specs.Monitor.{Armed, initial, of_number}
 use Rattle.monitor.specs.Published.{Leading, shift, reached}
 use Rattle.monitor.specs.Demand.{open_from, still_open, refusal_after, Taken}
 use Rattle.monitor.specs.Claims.{Calls}
-use Rattle.monitor.proofs.Demand2.StillOpen.{one, openings, openings_calls, stays, last, openings_more}
+use Rattle.monitor.proofs.Demand2.StillOpen.{openings, openings_calls, stays, last, openings_more}
 
 -- a test that one of the elements passes
 among_any : {A : Type 0} (p : A → Bool) (l : List A) (x : A) → Among x l → p x ≡ true → any p l ≡ true

@@ -1,6 +1,5 @@
 -- `run` meets its contract. Assumes nothing.
 use mathlib.Core.Path.{◌∙◌}
-use borrow.Author.Rules.{rules}
 use Rattle.monitor.proofs.Offers.Machined.{answer_same, counts_same}
 use Rattle.monitor.proofs.run.Goals as goal
 

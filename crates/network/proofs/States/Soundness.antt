@@ -19,7 +19,7 @@ use Rattle.sheet.proofs.Tests.{and_iff, leb_iff, eqb_iff}
 use Rattle.step.specs.Lists.{first, keep, any, least, distinct, rising}
 use Rattle.step.specs.Moves.{Configuration}
 use Rattle.step.specs.Calls.{Call, is_entry, entry_for, entries_sound}
-use Rattle.step.specs.Verdicts.{is_judged, verdict, if_there}
+use Rattle.step.specs.Verdicts.{is_judged, if_there}
 use Rattle.step.specs.Runs.{offered}
 use Rattle.step.proofs.OnLists.Lists.{any_map, any_keep, first_passes, kept_passes, least_some}
 use Rattle.step.proofs.OnEvents.Refusing as Refusing

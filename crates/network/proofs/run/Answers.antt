@@ -1,6 +1,5 @@
 -- `run` meets its contract. Assumes nothing.
 use mathlib.Core.Path.{◌∙◌}
-use borrow.Author.Rules.{rules}
 use Rattle.network.proofs.ByMachine.Runs.{run_same, counts_same}
 use Rattle.network.proofs.run.Goals as goal
 

@@ -1,8 +1,6 @@
 -- `offer_all` meets its contract. Assumes nothing.
-use Prim.Native.Nat.{◌-◌}
 use native.Mathlib.Omega.{arith}
-use borrow.Author.Rules.{rules}
-use Rattle.replay.proofs.Following.{Offering, offering_start, offering_long, offering_end, offering_room, offering_next}
+use Rattle.replay.proofs.Following.{offering_start, offering_end, offering_room, offering_next}
 use Rattle.replay.proofs.offer_all.Goals as goal
 
 pub loop-at-init : goal.loop-at-init

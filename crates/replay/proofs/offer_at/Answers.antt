@@ -1,5 +1,4 @@
 -- `offer_at` meets its contract. Assumes nothing.
-use borrow.Author.Rules.{rules}
 use Rattle.replay.proofs.Following.{values_many, offered_there}
 use Rattle.replay.proofs.offer_at.Goals as goal
 

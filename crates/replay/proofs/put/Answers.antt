@@ -1,6 +1,5 @@
 -- `put` meets its contract. Assumes nothing.
 use mathlib.Core.Path.{sym}
-use borrow.Author.Rules.{rules}
 use lib.Seq.{set_out}
 use Rattle.replay.proofs.put.Goals as goal
 

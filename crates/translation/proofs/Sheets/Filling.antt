@@ -20,7 +20,7 @@ use Rattle.sheet.proofs.Answers.{answer_refused}
 use Rattle.sheet.proofs.Tables.{length_records}
 use Rattle.translation.specs.declared.write.Frame.{Frame}
 use Rattle.translation.specs.declared.write.Spot.{Spot}
-use Rattle.translation.specs.Translate.{added, translate}
+use Rattle.translation.specs.Translate.{translate}
 use Rattle.translation.specs.Answer.{network_bytes, translate_refusal, written, refused, translated_with, buffer_with, translated_of, buffer_of}
 use Rattle.translation.specs.Walk.{Prepared, Measures, Writes, WritesTables, tables_at, header_at}
 use Rattle.translation.proofs.Sheets.Counting.{added_length}

@@ -1,5 +1,4 @@
 -- `after` meets its contract: by the kind of the first part. Assumes nothing.
-use borrow.Author.Rules.{rules}
 use Rattle.bench.proofs.Searches.Behind.{after_a_condition, after_a_value, after_a_number, after_nothing}
 use Rattle.bench.proofs.parts.after.Goals as goal
 

@@ -1,6 +1,5 @@
 -- `fits` meets its contract. Assumes nothing.
 use mathlib.Core.Path.{refl}
-use borrow.Author.Rules.{rules}
 use Rattle.bench.specs.Walk.{fits}
 use Rattle.bench.proofs.parts.fits.Goals as goal
 

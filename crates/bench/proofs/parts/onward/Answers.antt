@@ -1,6 +1,5 @@
 -- `onward` meets its contract. Assumes nothing.
 use mathlib.Core.Path.{refl}
-use borrow.Author.Rules.{rules}
 use Rattle.bench.proofs.Searches.Behind.{onward_fits, onward_not}
 use Rattle.bench.proofs.parts.onward.Goals as goal
 

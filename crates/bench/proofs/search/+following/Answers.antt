@@ -1,6 +1,5 @@
 -- `following` meets its contract: what is left of the n bytes falls. Assumes nothing.
 use mathlib.Core.Path.{◌≡◌}
-use Prim.Native.Nat.{ℕ, ◌-◌, ◌<◌}
 use borrow.Author.Rules.{rules}
 use lib.ListN.{length}
 use Rattle.bench.proofs.Searches.Loops.{following_end, following_stays, following_rises}

@@ -1,9 +1,7 @@
 -- `accepts` meets its contract. The loop's invariant: what is left of the bytes is what is pending where all of them are one condition. Assumes nothing.
 use mathlib.Core.Path.{◌≡◌, ◌∙◌}
-use Prim.Native.Nat.{◌-◌, ◌≤◌}
 use borrow.Author.Rules.{rules}
-use lib.ListN.{length, take, drop}
-use Rattle.bench.specs.Walk.{Small, one_condition, accepts}
+use lib.ListN.{length}
 use Rattle.bench.proofs.Searches.Loops.{accepts_start, accepts_on, accepts_end}
 use Rattle.bench.proofs.search.accepts.Goals as goal
 

@@ -1,10 +1,8 @@
 -- `accepts` meets its contract. The loop's invariant: what is left of the bytes is what is pending where all of them are one condition. Assumes nothing.
-use mathlib.Core.Path.{◌≡◌, ◌∙◌}
+use mathlib.Core.Path.{◌≡◌}
 use Prim.Native.Nat.{◌-◌, ◌≤◌}
-use borrow.Author.Rules.{rules}
-use lib.ListN.{length, take, drop}
+use lib.ListN.{take, drop}
 use Rattle.bench.specs.Walk.{Small, one_condition, accepts}
-use Rattle.bench.proofs.Searches.Loops.{accepts_start, accepts_on, accepts_end}
 use Rattle.bench.proofs.search.accepts.Given as goal
 
 abbrev pub invariant-loop-i : goal.invariant-loop-i

@@ -1,9 +1,7 @@
 -- `clear_from` meets its contract. The loop's invariant: all are zero where those that are left are. Assumes nothing.
-use mathlib.Core.Path.{◌≡◌, refl, ◌∙◌}
+use mathlib.Core.Path.{◌≡◌}
 use Prim.Native.Nat.{◌-◌}
-use borrow.Author.Rules.{rules}
 use Rattle.bench.specs.Walk.{clear_from}
-use Rattle.bench.proofs.Searches.Loops.{clear_on, clear_not, clear_end}
 use Rattle.bench.proofs.search.clear_from.Given as goal
 
 abbrev pub invariant-loop-i : goal.invariant-loop-i

@@ -1,9 +1,5 @@
 -- `complete` meets its contract. The loop's invariant: what is still to be stored makes of the bytes what it makes of the given ones. Assumes nothing.
-use mathlib.Core.Path.{◌≡◌, refl, ◌∙◌}
-use Prim.Native.Nat.{◌-◌}
-use borrow.Author.Rules.{rules}
-use lib.Seq.{sets}
-use Rattle.bench.specs.Walk.{Small, completed}
+use mathlib.Core.Path.{refl, ◌∙◌}
 use Rattle.bench.proofs.Searches.Loops.{complete_on, complete_end}
 use Rattle.bench.proofs.search.complete.Goals as goal
 

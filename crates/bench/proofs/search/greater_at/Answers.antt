@@ -1,5 +1,4 @@
 -- `greater_at` meets its contract. Assumes nothing.
-use borrow.Author.Rules.{rules}
 use Rattle.bench.proofs.Searches.Loops.{greater_none, greater_some}
 use Rattle.bench.proofs.search.greater_at.Goals as goal
 

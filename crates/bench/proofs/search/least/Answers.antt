@@ -1,8 +1,4 @@
 -- `least` meets its contract. The loop's invariant: the search from b on finds what the search from `from` on finds. Assumes nothing.
-use mathlib.Core.Path.{◌≡◌}
-use Prim.Native.Nat.{◌-◌}
-use borrow.Author.Rules.{rules}
-use Rattle.bench.specs.Walk.{sought, least}
 use Rattle.bench.proofs.Searches.Loops.{least_start, least_on, least_here, least_none}
 use Rattle.bench.proofs.search.least.Goals as goal
 

@@ -1,6 +1,5 @@
 -- `started` meets its contract. Assumes nothing.
 use Rattle.monitor.proofs.States.Starting.{started_found}
-use borrow.Author.Rules.{rules}
 use Rattle.monitor.proofs.WatchState.started.Goals as goal
 
 pub returns : goal.returns

@@ -1,11 +1,11 @@
 -- `pack::row` meets its contract. Assumes nothing.
 use mathlib.Core.Path.{◌≡◌, refl}
-use Prim.Native.Nat.{◌-◌, ◌<◌}
+use Prim.Native.Nat.{◌<◌}
 use native.Mathlib.Omega.{arith}
 use borrow.Author.Rules.{rules}
 use lib.ListN.{length}
 use Rattle.monitor.proofs.SoundTests.Checks.{length_mapped}
-use Rattle.monitor.proofs.Offers.Packed.{Packing, packing_start, packing_next, packing_end}
+use Rattle.monitor.proofs.Offers.Packed.{packing_start, packing_next, packing_end}
 use Rattle.monitor.proofs.pack.row.Goals as goal
 
 pub loop-i-init : goal.loop-i-init

@@ -1,9 +1,9 @@
 -- `pack::unpack` meets its contract. Assumes nothing.
 use mathlib.Core.Path.{refl}
-use Prim.Native.Nat.{◌-◌, ◌<◌}
+use Prim.Native.Nat.{◌<◌}
 use native.Mathlib.Omega.{arith}
 use borrow.Author.Rules.{rules}
-use Rattle.monitor.proofs.Offers.Packed.{Unpacking, unpacking_start, unpacking_next, unpacking_end}
+use Rattle.monitor.proofs.Offers.Packed.{unpacking_start, unpacking_next, unpacking_end}
 use Rattle.monitor.proofs.pack.unpack.Goals as goal
 
 pub loop-i-init : goal.loop-i-init

@@ -1,9 +1,6 @@
 -- `pack::unpack` meets its contract. Assumes nothing.
-use mathlib.Core.Path.{refl}
-use Prim.Native.Nat.{◌-◌, ◌<◌}
-use native.Mathlib.Omega.{arith}
-use borrow.Author.Rules.{rules}
-use Rattle.monitor.proofs.Offers.Packed.{Unpacking, unpacking_start, unpacking_next, unpacking_end}
+use Prim.Native.Nat.{◌-◌}
+use Rattle.monitor.proofs.Offers.Packed.{Unpacking}
 use Rattle.monitor.proofs.pack.unpack.Given as goal
 
 abbrev pub invariant-loop-i : goal.invariant-loop-i

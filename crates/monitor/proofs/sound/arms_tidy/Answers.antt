@@ -1,10 +1,8 @@
 -- `sound::arms_tidy` meets its contract. Assumes nothing.
 use mathlib.Core.Path.{◌≡◌, refl, sym, ◌∙◌}
-use Prim.Native.Nat.{◌-◌}
 use borrow.Author.Rules.{rules}
 use native.Mathlib.Omega.{arith}
-use lib.ListN.{length, drop}
-use Rattle.sheet.specs.Table.{every}
+use lib.ListN.{length}
 use Rattle.step.proofs.OnLists.Turns.{every_end, every_next, every_fails}
 use Rattle.monitor.specs.Padded.{tidy_arms}
 use Rattle.monitor.proofs.sound.arms_tidy.Goals as goal

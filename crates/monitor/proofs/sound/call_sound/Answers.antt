@@ -1,5 +1,4 @@
 -- `sound::call_sound` meets its contract. Assumes nothing.
-use borrow.Author.Rules.{rules}
 use Rattle.monitor.proofs.SoundTests.Checks.{call_tested_lem}
 use Rattle.monitor.proofs.sound.call_sound.Goals as goal
 

@@ -1,12 +1,9 @@
 -- `sound::calls_sound` meets its contract. Assumes nothing.
 use mathlib.Core.Path.{◌≡◌, refl, sym, ◌∙◌}
-use Prim.Native.Nat.{◌-◌}
 use borrow.Author.Rules.{rules}
 use native.Mathlib.Omega.{arith}
-use lib.ListN.{length, take, drop}
-use Rattle.sheet.specs.Table.{every}
+use lib.ListN.{length}
 use Rattle.sheet.specs.Decode.{sheet_of}
-use Rattle.step.specs.Lists.{beside}
 use Rattle.monitor.specs.Sound.{call_sound}
 use Rattle.monitor.specs.Padded.{unpad_armed}
 use Rattle.monitor.proofs.SoundTests.Checks.{last_few, call_is}

@@ -1,16 +1,12 @@
 -- `sound::calls_sound` meets its contract. Assumes nothing.
-use mathlib.Core.Path.{◌≡◌, refl, sym, ◌∙◌}
+use mathlib.Core.Path.{◌≡◌}
 use Prim.Native.Nat.{◌-◌}
-use borrow.Author.Rules.{rules}
-use native.Mathlib.Omega.{arith}
-use lib.ListN.{length, take, drop}
+use lib.ListN.{take, drop}
 use Rattle.sheet.specs.Table.{every}
 use Rattle.sheet.specs.Decode.{sheet_of}
 use Rattle.step.specs.Lists.{beside}
 use Rattle.monitor.specs.Sound.{call_sound}
 use Rattle.monitor.specs.Padded.{unpad_armed}
-use Rattle.monitor.proofs.SoundTests.Checks.{last_few, call_is}
-use Rattle.monitor.proofs.SoundTests.Testing.{pair_end, pair_far, pair_next, pair_fails}
 use Rattle.monitor.proofs.sound.calls_sound.Given as goal
 
 abbrev pub invariant-loop-i : goal.invariant-loop-i

@@ -1,14 +1,9 @@
 -- `sound::of_one_state` meets its contract. Assumes nothing.
 use mathlib.Core.Path.{◌≡◌, refl}
-use mathlib.Core.Bool.{Bool}
-use mathlib.Core.List.{List}
-use Prim.Native.Nat.{ℕ, ◌-◌}
 use borrow.Author.Rules.{rules}
 use borrow.Author.Tests.{eq-eqb, ne_eqb}
 use native.Mathlib.Omega.{arith}
-use lib.Dec.{eqb}
-use lib.ListN.{length, get_or, take, drop}
-use Rattle.sheet.specs.Table.{every}
+use lib.ListN.{length, get_or}
 use Rattle.step.proofs.OnLists.Turns.{part_end, part_far, part_next, part_fails}
 use Rattle.monitor.proofs.SoundTests.Testing.{state_is, one_state}
 use Rattle.monitor.proofs.sound.of_one_state.Goals as goal

@@ -1,16 +1,11 @@
 -- `sound::of_one_state` meets its contract. Assumes nothing.
-use mathlib.Core.Path.{◌≡◌, refl}
+use mathlib.Core.Path.{◌≡◌}
 use mathlib.Core.Bool.{Bool}
 use mathlib.Core.List.{List}
 use Prim.Native.Nat.{ℕ, ◌-◌}
-use borrow.Author.Rules.{rules}
-use borrow.Author.Tests.{eq-eqb, ne_eqb}
-use native.Mathlib.Omega.{arith}
 use lib.Dec.{eqb}
-use lib.ListN.{length, get_or, take, drop}
+use lib.ListN.{get_or, take, drop}
 use Rattle.sheet.specs.Table.{every}
-use Rattle.step.proofs.OnLists.Turns.{part_end, part_far, part_next, part_fails}
-use Rattle.monitor.proofs.SoundTests.Testing.{state_is, one_state}
 use Rattle.monitor.proofs.sound.of_one_state.Given as goal
 
 abbrev pub test : List ℕ → List ℕ → ℕ → Bool

@@ -1,15 +1,11 @@
 -- `sound::of_unit` meets its contract. Assumes nothing.
-use mathlib.Core.Path.{◌≡◌, refl}
+use mathlib.Core.Path.{◌≡◌}
 use mathlib.Core.Bool.{Bool, ◌&&◌}
 use mathlib.Core.List.{List}
 use Prim.Native.Nat.{ℕ, ◌-◌}
-use borrow.Author.Rules.{rules}
-use native.Mathlib.Omega.{arith}
 use lib.Dec.{eqb, ltb}
-use lib.ListN.{length, get_or, take, drop}
+use lib.ListN.{get_or, take, drop}
 use Rattle.sheet.specs.Table.{every}
-use Rattle.step.proofs.OnLists.Turns.{part_end, part_far, part_next, part_fails}
-use Rattle.monitor.proofs.SoundTests.Testing.{unit_is}
 use Rattle.monitor.proofs.sound.of_unit.Given as goal
 
 abbrev pub test : List ℕ → ℕ → ℕ → ℕ → Bool

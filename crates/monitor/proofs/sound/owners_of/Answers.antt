@@ -1,8 +1,8 @@
 -- `sound::owners_of` meets its contract. Assumes nothing.
-use Prim.Native.Nat.{◌-◌, ◌<◌, ◌≤◌}
+use Prim.Native.Nat.{◌<◌, ◌≤◌}
 use native.Mathlib.Omega.{arith}
 use borrow.Author.Rules.{rules}
-use Rattle.monitor.proofs.SoundTests.Triples.{Holding, holding_start, holding_next, holding_end}
+use Rattle.monitor.proofs.SoundTests.Triples.{holding_start, holding_next, holding_end}
 use Rattle.monitor.proofs.sound.owners_of.Goals as goal
 
 pub loop-k-init : goal.loop-k-init

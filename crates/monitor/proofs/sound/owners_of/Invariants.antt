@@ -1,8 +1,6 @@
 -- `sound::owners_of` meets its contract. Assumes nothing.
-use Prim.Native.Nat.{◌-◌, ◌<◌, ◌≤◌}
-use native.Mathlib.Omega.{arith}
-use borrow.Author.Rules.{rules}
-use Rattle.monitor.proofs.SoundTests.Triples.{Holding, holding_start, holding_next, holding_end}
+use Prim.Native.Nat.{◌-◌}
+use Rattle.monitor.proofs.SoundTests.Triples.{Holding}
 use Rattle.monitor.proofs.sound.owners_of.Given as goal
 
 abbrev pub invariant-loop-k : goal.invariant-loop-k

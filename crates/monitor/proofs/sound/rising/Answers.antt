@@ -1,10 +1,9 @@
 -- `sound::rising` meets its contract. Assumes nothing.
 use mathlib.Core.Path.{◌≡◌}
-use Prim.Native.Nat.{◌-◌}
 use borrow.Author.Rules.{rules}
 use native.Mathlib.Omega.{arith}
 use lib.ListN.{length}
-use Rattle.step.proofs.OnLists.Rising.{Rising, rising_start, rising_end, rising_far, rising_next, rising_fails}
+use Rattle.step.proofs.OnLists.Rising.{rising_start, rising_end, rising_far, rising_next, rising_fails}
 use Rattle.monitor.proofs.sound.rising.Goals as goal
 
 pub loop-i-init : goal.loop-i-init

@@ -1,5 +1,4 @@
 -- `sound::sound` meets its contract. Assumes nothing.
-use borrow.Author.Rules.{rules}
 use Rattle.monitor.proofs.SoundTests.Checks.{sound_is}
 use Rattle.monitor.proofs.sound.sound.Goals as goal
 

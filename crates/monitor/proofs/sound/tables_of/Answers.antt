@@ -1,6 +1,5 @@
 -- `sound::tables_of` meets its contract. Assumes nothing.
 use mathlib.Core.Path.{ap}
-use borrow.Author.Rules.{rules}
 use Rattle.sheet.specs.declared.Header.{Header}
 use Rattle.monitor.specs.declared.sound.Tables.{Tables}
 use Rattle.monitor.proofs.sound.tables_of.Goals as goal

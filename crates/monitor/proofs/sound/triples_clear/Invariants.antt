@@ -1,14 +1,10 @@
 -- `sound::triples_clear` meets its contract. Assumes nothing.
-use mathlib.Core.Path.{◌≡◌, refl}
+use mathlib.Core.Path.{◌≡◌}
 use Prim.Native.Nat.{◌-◌}
-use borrow.Author.Rules.{rules}
-use native.Mathlib.Omega.{arith}
-use borrow.Author.Tests.{eq-eqb, ne_eqb}
 use lib.Dec.{eqb}
-use lib.ListN.{length, drop}
+use lib.ListN.{drop}
 use Rattle.sheet.specs.Table.{every}
 use Rattle.step.specs.Padding.{clear}
-use Rattle.step.proofs.OnLists.Turns.{every_end, every_next, every_fails}
 use Rattle.monitor.proofs.sound.triples_clear.Given as goal
 
 abbrev pub invariant-loop-i : goal.invariant-loop-i

@@ -1,6 +1,5 @@
 -- `NetworkState::started` meets its contract. Assumes nothing.
 use Rattle.network.proofs.States.Starting.{started_found}
-use borrow.Author.Rules.{rules}
 use Rattle.network.proofs.NetworkState.started.Goals as goal
 
 pub returns : goal.returns

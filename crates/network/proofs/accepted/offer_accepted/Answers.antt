@@ -1,6 +1,5 @@
 -- `accepted::offer_accepted` meets its contract. Assumes nothing.
 use mathlib.Core.Path.{sym, ◌∙◌}
-use borrow.Author.Rules.{rules}
 use Rattle.step.specs.Calls.{event_of}
 use Rattle.network.proofs.Offers.Answering.{unsound}
 use Rattle.network.proofs.Offers.Packed.{short_said, tables_there}

@@ -1,5 +1,4 @@
 -- `accepted::offer_sound` meets its contract. Assumes nothing.
-use borrow.Author.Rules.{rules}
 use Rattle.network.proofs.Offers.Packed.{sound_opened, few_opened, offer_refused, offer_taken}
 use Rattle.network.proofs.accepted.offer_sound.Goals as goal
 

@@ -1,10 +1,10 @@
 -- `pack::append` meets its contract. Assumes nothing.
 use mathlib.Core.Path.{◌≡◌}
-use Prim.Native.Nat.{◌+◌, ◌-◌, ◌<◌}
+use Prim.Native.Nat.{◌+◌, ◌<◌}
 use native.Mathlib.Omega.{arith}
 use borrow.Author.Rules.{rules}
 use lib.ListN.{length}
-use Rattle.network.proofs.Offers.Packing.{Appending, appending_start, appending_next, appending_end}
+use Rattle.network.proofs.Offers.Packing.{appending_start, appending_next, appending_end}
 use Rattle.network.proofs.pack.append.Goals as goal
 
 pub loop-i-init : goal.loop-i-init

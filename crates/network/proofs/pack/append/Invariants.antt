@@ -1,10 +1,6 @@
 -- `pack::append` meets its contract. Assumes nothing.
-use mathlib.Core.Path.{◌≡◌}
-use Prim.Native.Nat.{◌+◌, ◌-◌, ◌<◌}
-use native.Mathlib.Omega.{arith}
-use borrow.Author.Rules.{rules}
-use lib.ListN.{length}
-use Rattle.network.proofs.Offers.Packing.{Appending, appending_start, appending_next, appending_end}
+use Prim.Native.Nat.{◌-◌}
+use Rattle.network.proofs.Offers.Packing.{Appending}
 use Rattle.network.proofs.pack.append.Given as goal
 
 abbrev pub invariant-loop-i : goal.invariant-loop-i

@@ -1,11 +1,8 @@
 -- `pack::bound_from` meets its contract. Assumes nothing.
-use mathlib.Core.List.{map}
-use Prim.Native.Nat.{◌+◌, ◌-◌, ◌<◌}
+use Prim.Native.Nat.{◌+◌, ◌<◌}
 use native.Mathlib.Omega.{arith}
 use borrow.Author.Rules.{rules}
-use lib.ListN.{take, drop}
-use Rattle.network.specs.Packed.{checker_in}
-use Rattle.network.proofs.Offers.Packing.{Bounding, bounding_start, bounding_past, bounding_other, bounding_next, bounding_full}
+use Rattle.network.proofs.Offers.Packing.{bounding_start, bounding_past, bounding_other, bounding_next, bounding_full}
 use Rattle.network.proofs.pack.bound_from.Goals as goal
 
 pub loop-n-init : goal.loop-n-init

@@ -1,11 +1,9 @@
 -- `pack::bound_from` meets its contract. Assumes nothing.
 use mathlib.Core.List.{map}
-use Prim.Native.Nat.{◌+◌, ◌-◌, ◌<◌}
-use native.Mathlib.Omega.{arith}
-use borrow.Author.Rules.{rules}
+use Prim.Native.Nat.{◌-◌}
 use lib.ListN.{take, drop}
 use Rattle.network.specs.Packed.{checker_in}
-use Rattle.network.proofs.Offers.Packing.{Bounding, bounding_start, bounding_past, bounding_other, bounding_next, bounding_full}
+use Rattle.network.proofs.Offers.Packing.{Bounding}
 use Rattle.network.proofs.pack.bound_from.Given as goal
 
 abbrev pub invariant-loop-n : goal.invariant-loop-n

@@ -1,9 +1,9 @@
 -- `pack::checkers_of` meets its contract. Assumes nothing.
-use Prim.Native.Nat.{◌-◌, ◌<◌}
+use Prim.Native.Nat.{◌<◌}
 use native.Mathlib.Omega.{arith}
 use borrow.Author.Rules.{rules}
 use Rattle.step.proofs.OnLists.Filling.{filling_start}
-use Rattle.network.proofs.Offers.Packing.{Showing, showing_next, showing_end}
+use Rattle.network.proofs.Offers.Packing.{showing_next, showing_end}
 use Rattle.network.proofs.pack.checkers_of.Goals as goal
 
 pub loop-i-init : goal.loop-i-init

@@ -1,9 +1,6 @@
 -- `pack::checkers_of` meets its contract. Assumes nothing.
-use Prim.Native.Nat.{◌-◌, ◌<◌}
-use native.Mathlib.Omega.{arith}
-use borrow.Author.Rules.{rules}
-use Rattle.step.proofs.OnLists.Filling.{filling_start}
-use Rattle.network.proofs.Offers.Packing.{Showing, showing_next, showing_end}
+use Prim.Native.Nat.{◌-◌}
+use Rattle.network.proofs.Offers.Packing.{Showing}
 use Rattle.network.proofs.pack.checkers_of.Given as goal
 
 abbrev pub invariant-loop-i : goal.invariant-loop-i

@@ -1,13 +1,11 @@
 -- `pack::row` meets its contract. Assumes nothing.
 use mathlib.Core.Path.{◌≡◌, refl, ap, ◌∙◌}
-use mathlib.Core.List.{map}
-use Prim.Native.Nat.{ℕ, ◌+◌, ◌-◌, ◌≤◌, ◌<◌}
+use Prim.Native.Nat.{ℕ, ◌+◌, ◌≤◌, ◌<◌}
 use native.Mathlib.Omega.{arith}
 use borrow.Author.Rules.{rules}
 use lib.ListN.{length, take}
-use Rattle.network.specs.Packed.{checker_in}
 use Rattle.network.proofs.SoundTests.Holding.{length_mapped}
-use Rattle.network.proofs.Offers.Packing.{Packing, packing_start, packing_next, packing_end}
+use Rattle.network.proofs.Offers.Packing.{packing_start, packing_next, packing_end}
 use Rattle.network.proofs.pack.row.Goals as goal
 
 pub words_of-words-requires : goal.words_of-words-requires

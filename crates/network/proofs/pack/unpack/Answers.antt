@@ -1,9 +1,9 @@
 -- `pack::unpack` meets its contract. Assumes nothing.
 use mathlib.Core.Path.{refl}
-use Prim.Native.Nat.{◌-◌, ◌≤◌, ◌<◌}
+use Prim.Native.Nat.{◌≤◌, ◌<◌}
 use native.Mathlib.Omega.{arith}
 use borrow.Author.Rules.{rules}
-use Rattle.network.proofs.Offers.Packing.{Unpacking, arms_few, held_long, unpacking_start, unpacking_next, unpacking_end}
+use Rattle.network.proofs.Offers.Packing.{arms_few, held_long, unpacking_start, unpacking_next, unpacking_end}
 use Rattle.network.proofs.pack.unpack.Goals as goal
 
 pub loop-i-init : goal.loop-i-init

@@ -1,9 +1,6 @@
 -- `pack::unpack` meets its contract. Assumes nothing.
-use mathlib.Core.Path.{refl}
-use Prim.Native.Nat.{◌-◌, ◌≤◌, ◌<◌}
-use native.Mathlib.Omega.{arith}
-use borrow.Author.Rules.{rules}
-use Rattle.network.proofs.Offers.Packing.{Unpacking, arms_few, held_long, unpacking_start, unpacking_next, unpacking_end}
+use Prim.Native.Nat.{◌-◌}
+use Rattle.network.proofs.Offers.Packing.{Unpacking}
 use Rattle.network.proofs.pack.unpack.Given as goal
 
 abbrev pub invariant-loop-i : goal.invariant-loop-i

@@ -1,6 +1,5 @@
 -- `pack::word_of` meets its contract. Assumes nothing.
 use mathlib.Core.Path.{refl}
-use borrow.Author.Rules.{rules}
 use Rattle.network.proofs.Offers.Packing.{word_back}
 use Rattle.network.proofs.pack.word_of.Goals as goal
 

@@ -1,10 +1,10 @@
 -- `pack::words_of` meets its contract. Assumes nothing.
 use mathlib.Core.Path.{◌≡◌, refl}
-use Prim.Native.Nat.{◌-◌, ◌<◌}
+use Prim.Native.Nat.{◌<◌}
 use native.Mathlib.Omega.{arith}
 use borrow.Author.Rules.{rules}
 use lib.ListN.{length}
-use Rattle.network.proofs.Offers.Packing.{Wording, wording_start, wording_next, wording_end}
+use Rattle.network.proofs.Offers.Packing.{wording_start, wording_next, wording_end}
 use Rattle.network.proofs.pack.words_of.Goals as goal
 
 pub loop-i-init : goal.loop-i-init

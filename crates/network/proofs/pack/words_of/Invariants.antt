@@ -1,10 +1,6 @@
 -- `pack::words_of` meets its contract. Assumes nothing.
-use mathlib.Core.Path.{◌≡◌, refl}
-use Prim.Native.Nat.{◌-◌, ◌<◌}
-use native.Mathlib.Omega.{arith}
-use borrow.Author.Rules.{rules}
-use lib.ListN.{length}
-use Rattle.network.proofs.Offers.Packing.{Wording, wording_start, wording_next, wording_end}
+use Prim.Native.Nat.{◌-◌}
+use Rattle.network.proofs.Offers.Packing.{Wording}
 use Rattle.network.proofs.pack.words_of.Given as goal
 
 abbrev pub invariant-loop-i : goal.invariant-loop-i

@@ -1,13 +1,11 @@
 -- `sound::bound_to` meets its contract. Assumes nothing.
 use mathlib.Core.Path.{◌≡◌}
-use mathlib.Core.Logic.{⊎_elim}
-use Prim.Native.Nat.{◌-◌}
 use borrow.Author.Rules.{rules}
 use borrow.Author.Tests.{eq-eqb, ne_eqb}
 use native.Mathlib.Omega.{arith}
 use lib.ListN.{length}
 use Rattle.network.specs.Network.{bound_to}
-use Rattle.network.proofs.SoundTests.Counting.{Counting, count_start, count_end, count_far, count_here, count_not_here}
+use Rattle.network.proofs.SoundTests.Counting.{count_start, count_end, count_far, count_here, count_not_here}
 use Rattle.network.proofs.sound.bound_to.Goals as goal
 use Rattle.network.proofs.sound.bound_to.Goals.{else-c-number, then-c-number}
 

@@ -1,10 +1,8 @@
 -- `sound::checkers_clear` meets its contract. Assumes nothing.
 use mathlib.Core.Path.{◌≡◌, refl}
-use Prim.Native.Nat.{◌-◌}
 use borrow.Author.Rules.{rules}
 use native.Mathlib.Omega.{arith}
-use lib.ListN.{length, drop}
-use Rattle.sheet.specs.Table.{every}
+use lib.ListN.{length}
 use Rattle.step.proofs.OnLists.Turns.{every_end, every_next, every_fails}
 use Rattle.network.specs.Padded.{is_zero_checker}
 use Rattle.network.proofs.sound.checkers_clear.Goals as goal

@@ -1,10 +1,8 @@
 -- `sound::entries_carried` meets its contract. Assumes nothing.
 use mathlib.Core.Path.{◌≡◌, refl, sym, ◌∙◌}
-use Prim.Native.Nat.{◌-◌}
 use borrow.Author.Rules.{rules}
 use native.Mathlib.Omega.{arith}
-use lib.ListN.{length, take, drop}
-use Rattle.sheet.specs.Table.{every}
+use lib.ListN.{length, take}
 use Rattle.step.proofs.OnLists.Turns.{part_end, part_far, part_next, part_fails}
 use Rattle.network.specs.Walk.{carried_in}
 use Rattle.network.proofs.sound.entries_carried.Goals as goal

@@ -1,11 +1,8 @@
 -- `sound::entries_carried` meets its contract. Assumes nothing.
-use mathlib.Core.Path.{◌≡◌, refl, sym, ◌∙◌}
+use mathlib.Core.Path.{◌≡◌}
 use Prim.Native.Nat.{◌-◌}
-use borrow.Author.Rules.{rules}
-use native.Mathlib.Omega.{arith}
-use lib.ListN.{length, take, drop}
+use lib.ListN.{take, drop}
 use Rattle.sheet.specs.Table.{every}
-use Rattle.step.proofs.OnLists.Turns.{part_end, part_far, part_next, part_fails}
 use Rattle.network.specs.Walk.{carried_in}
 use Rattle.network.proofs.sound.entries_carried.Given as goal
 

@@ -1,17 +1,13 @@
 -- `sound::four_a_call` meets its contract. Assumes nothing.
-use mathlib.Core.Path.{◌≡◌, refl, sym, ap, ◌∙◌}
+use mathlib.Core.Path.{◌≡◌}
 use mathlib.Core.Bool.{Bool}
 use mathlib.Core.List.{List}
 use Prim.Native.Nat.{◌-◌}
-use borrow.Author.Rules.{rules}
-use borrow.Author.Tests.{le-leb, lt-leb}
-use native.Mathlib.Omega.{arith}
 use lib.Dec.{leb}
 use lib.ListN.{length, take, drop}
 use Rattle.sheet.specs.Table.{every}
 use Rattle.step.specs.declared.Call.{Call}
 use Rattle.step.specs.Lists.{keep}
-use Rattle.step.proofs.OnLists.Turns.{part_end, part_far, part_next, part_fails}
 use Rattle.network.specs.declared.Checker.{Checker}
 use Rattle.network.specs.Network.{bound_to}
 use Rattle.network.proofs.sound.four_a_call.Given as goal

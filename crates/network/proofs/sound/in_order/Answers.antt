@@ -1,15 +1,8 @@
 -- `sound::in_order` meets its contract. Assumes nothing.
 use mathlib.Core.Path.{◌≡◌, refl}
-use mathlib.Core.List.{List, map}
-use Prim.Native.Nat.{ℕ, ◌-◌}
 use borrow.Author.Rules.{rules}
 use native.Mathlib.Omega.{arith}
-use lib.Dec.{eqb}
-use lib.ListN.{length, take, drop}
-use Rattle.step.specs.declared.Call.{Call}
-use Rattle.step.specs.Lists.{place_of}
-use Rattle.network.specs.declared.Checker.{Checker}
-use Rattle.network.specs.Sound.{never_falls}
+use lib.ListN.{length, take}
 use Rattle.network.proofs.SoundTests.Counting.{falls_end, falls_far, falls_next, falls_fails}
 use Rattle.network.proofs.sound.in_order.Goals as goal
 use Rattle.network.proofs.sound.in_order.Invariants.{call_of}

@@ -1,5 +1,4 @@
 -- `sound::on_call` meets its contract. Assumes nothing.
-use borrow.Author.Rules.{rules}
 use lib.ListN.{take}
 use Rattle.network.proofs.SoundTests.Holding.{on_call_is}
 use Rattle.network.proofs.sound.on_call.Goals as goal

@@ -1,10 +1,10 @@
 -- `sound::on_calls` meets its contract. Assumes nothing.
 use mathlib.Core.Path.{◌≡◌, refl, sym, ap, ◌∙◌}
 use mathlib.Core.List.{List}
-use Prim.Native.Nat.{ℕ, ◌-◌}
+use Prim.Native.Nat.{ℕ}
 use borrow.Author.Rules.{rules}
 use native.Mathlib.Omega.{arith}
-use lib.ListN.{length, take, drop}
+use lib.ListN.{length, take}
 use Rattle.sheet.specs.Table.{every}
 use Rattle.step.proofs.OnLists.Turns.{part_end, part_far, part_next, part_fails}
 use Rattle.network.specs.Walk.{on_call_of}

@@ -1,5 +1,4 @@
 -- `sound::sound` meets its contract. Assumes nothing.
-use borrow.Author.Rules.{rules}
 use Rattle.network.proofs.SoundTests.Checks.{last_few, sound_is}
 use Rattle.network.proofs.sound.sound.Goals as goal
 

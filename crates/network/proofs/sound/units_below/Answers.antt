@@ -1,14 +1,9 @@
 -- `sound::units_below` meets its contract. Assumes nothing.
 use mathlib.Core.Path.{◌≡◌, refl}
-use mathlib.Core.Bool.{Bool}
-use Prim.Native.Nat.{ℕ, ◌-◌}
 use borrow.Author.Rules.{rules}
 use borrow.Author.Tests.{lt-ltb, le-ltb}
 use native.Mathlib.Omega.{arith}
-use lib.Dec.{ltb}
-use lib.ListN.{length, take, drop}
-use Rattle.sheet.specs.Table.{every}
-use Rattle.step.specs.declared.Call.{Call}
+use lib.ListN.{length}
 use Rattle.step.proofs.OnLists.Turns.{part_end, part_far, part_next, part_fails}
 use Rattle.network.proofs.sound.units_below.Goals as goal
 use Rattle.network.proofs.sound.units_below.Invariants.{low}

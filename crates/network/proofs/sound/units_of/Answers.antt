@@ -1,11 +1,10 @@
 -- `sound::units_of_lem` meets its contract. Assumes nothing.
 use mathlib.Core.Path.{refl}
-use Prim.Native.Nat.{ℕ, ◌-◌, ◌<◌, ◌≤◌}
+use Prim.Native.Nat.{◌<◌, ◌≤◌}
 use native.Mathlib.Omega.{arith}
 use borrow.Author.Rules.{rules}
-use Rattle.sheet.specs.declared.Template.{Template}
 use Rattle.sheet.specs.Decode.{template_form}
-use Rattle.sheet.proofs.Readers.Filling.{Filled, field_form, field_start, field_next, field_end}
+use Rattle.sheet.proofs.Readers.Filling.{field_start, field_next, field_end}
 use Rattle.network.proofs.sound.units_of.Goals as goal
 use Rattle.network.proofs.sound.units_of.Invariants.{unit}
 

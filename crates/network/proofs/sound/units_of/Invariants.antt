@@ -1,11 +1,8 @@
 -- `sound::units_of_lem` meets its contract. Assumes nothing.
-use mathlib.Core.Path.{refl}
-use Prim.Native.Nat.{ℕ, ◌-◌, ◌<◌, ◌≤◌}
-use native.Mathlib.Omega.{arith}
-use borrow.Author.Rules.{rules}
+use Prim.Native.Nat.{ℕ, ◌-◌}
 use Rattle.sheet.specs.declared.Template.{Template}
 use Rattle.sheet.specs.Decode.{template_form}
-use Rattle.sheet.proofs.Readers.Filling.{Filled, field_form, field_start, field_next, field_end}
+use Rattle.sheet.proofs.Readers.Filling.{Filled, field_form}
 use Rattle.network.proofs.sound.units_of.Given as goal
 
 abbrev pub unit : Template → ℕ

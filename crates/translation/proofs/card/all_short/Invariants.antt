@@ -1,8 +1,6 @@
 -- `card::all_short` meets its contract. Assumes nothing.
 use Prim.Native.Nat.{◌-◌}
-use native.Mathlib.Omega.{arith}
-use borrow.Author.Rules.{rules}
-use Rattle.translation.proofs.Cards.Listing.{Testing, testing_start, next_small, next_there, testing_next, testing_end}
+use Rattle.translation.proofs.Cards.Listing.{Testing}
 use Rattle.translation.proofs.card.all_short.Given as goal
 
 abbrev pub invariant-loop-k : goal.invariant-loop-k

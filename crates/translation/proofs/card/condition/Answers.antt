@@ -1,5 +1,4 @@
 -- `card::condition` meets its contract. Assumes nothing.
-use borrow.Author.Rules.{rules}
 use native.Mathlib.Omega.{arith}
 use Rattle.translation.proofs.Sheets.Copying.{whole_room, whole_writes}
 use Rattle.translation.proofs.Cards.Reaching.{few_conditions_lem, condition_most, condition_is}

@@ -1,8 +1,5 @@
 -- `card::fill` meets its contract. Assumes nothing.
-use mathlib.Core.Path.{◌∙◌}
-use borrow.Author.Rules.{rules}
 use native.Mathlib.Omega.{arith}
-use Rattle.translation.proofs.Writing.{writes_length}
 use Rattle.translation.proofs.Cards.CardTabling.{counted}
 use Rattle.translation.proofs.Cards.CardFilling.{filled}
 use Rattle.translation.proofs.card.fill.Goals as goal

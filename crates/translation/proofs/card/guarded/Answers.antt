@@ -1,6 +1,5 @@
 -- `card::guarded` meets its contract. Assumes nothing.
 use native.Mathlib.Omega.{arith}
-use borrow.Author.Rules.{rules}
 use Rattle.translation.proofs.Cards.Guarding.{guarded_room, guarded_then}
 use Rattle.translation.proofs.card.guarded.Goals as goal
 

@@ -1,9 +1,6 @@
 -- `card::guarded_all` meets its contract. Assumes nothing.
 use Prim.Native.Nat.{◌-◌}
-use native.Mathlib.Omega.{arith}
-use borrow.Author.Rules.{rules}
-use Rattle.translation.proofs.Writing.{writes_length}
-use Rattle.translation.proofs.Cards.Guarding.{Guarding, guards_start, guards_within, guards_room, guards_next, guards_end}
+use Rattle.translation.proofs.Cards.Guarding.{Guarding}
 use Rattle.translation.proofs.card.guarded_all.Given as goal
 
 abbrev pub invariant-loop-k : goal.invariant-loop-k

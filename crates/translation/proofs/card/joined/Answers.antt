@@ -1,10 +1,7 @@
 -- `card::joined` meets its contract. Assumes nothing.
 use mathlib.Core.Path.{sym, ◌∙◌}
-use mathlib.Core.Logic.{⊎_elim}
 use native.Mathlib.Omega.{arith}
-use borrow.Author.Rules.{rules}
-use Rattle.translation.proofs.Writing.{writes_length}
-use Rattle.translation.proofs.Cards.Joining.{Joining, joining_start, joining_small, joining_there, joining_room_two, joining_room_old, joining_next, joining_other, joining_room_own, joining_end}
+use Rattle.translation.proofs.Cards.Joining.{joining_start, joining_small, joining_there, joining_room_two, joining_room_old, joining_next, joining_other, joining_room_own, joining_end}
 use Rattle.translation.proofs.card.joined.Goals as goal
 use Rattle.translation.proofs.card.joined.Goals.{else-same, then-same}
 

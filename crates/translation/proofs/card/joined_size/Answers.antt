@@ -1,6 +1,5 @@
 -- `card::joined_size` meets its contract. Assumes nothing.
 use native.Mathlib.Omega.{arith}
-use borrow.Author.Rules.{rules}
 use mathlib.Core.List.{[]}
 use Rattle.translation.proofs.Cards.Joining.{earlier_most}
 use Rattle.translation.proofs.card.joined_size.Goals as goal

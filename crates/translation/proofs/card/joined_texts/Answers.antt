@@ -1,9 +1,6 @@
 -- `card::joined_texts` meets its contract. Assumes nothing.
-use Prim.Native.Nat.{◌-◌}
 use native.Mathlib.Omega.{arith}
-use borrow.Author.Rules.{rules}
-use Rattle.translation.proofs.Writing.{writes_length}
-use Rattle.translation.proofs.Cards.Listing.{Listing, listing_start, next_small, next_there, listing_half, listing_room, listing_next, listing_end}
+use Rattle.translation.proofs.Cards.Listing.{listing_start, next_small, next_there, listing_half, listing_room, listing_next, listing_end}
 use Rattle.translation.proofs.card.joined_texts.Goals as goal
 
 pub loop-k-init : goal.loop-k-init

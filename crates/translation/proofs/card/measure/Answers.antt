@@ -1,5 +1,4 @@
 -- `card::measure` meets its contract. Assumes nothing.
-use borrow.Author.Rules.{rules}
 use Rattle.translation.proofs.Cards.CardFilling.{measured}
 use Rattle.translation.proofs.card.measure.Goals as goal
 

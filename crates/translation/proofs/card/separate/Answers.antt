@@ -1,6 +1,5 @@
 -- `card::separate` meets its contract. Assumes nothing.
 use mathlib.Core.Path.{sym, ◌∙◌}
-use borrow.Author.Rules.{rules}
 use native.Mathlib.Omega.{arith}
 use Rattle.translation.proofs.Cards.CardTabling.{counted}
 use Rattle.translation.proofs.Cards.CardFilling.{opened_with, joined_long, whole_long, buffer_short, buffer_holds}

@@ -1,8 +1,6 @@
 -- `card::tables` meets its contract. Assumes nothing.
 use mathlib.Core.Path.{◌∙◌}
-use borrow.Author.Rules.{rules}
 use native.Mathlib.Omega.{arith}
-use Rattle.translation.proofs.Writing.{writes_length}
 use Rattle.translation.proofs.Sheets.Tabling.{words_after}
 use Rattle.translation.proofs.Cards.CardTabling.{short, conditions_end, actions_end, guarded_end, counted, room_first, next_first, room_second, next_second, read_second, room_third, next_third, room_fourth, next_fourth, room_fifth, next_fifth, room_sixth, tables_done}
 use Rattle.translation.proofs.card.tables.Goals as goal

@@ -1,8 +1,6 @@
 -- `card::wide_texts` meets its contract. Assumes nothing.
 use native.Mathlib.Omega.{arith}
-use borrow.Author.Rules.{rules}
-use Rattle.translation.proofs.Writing.{writes_length}
-use Rattle.translation.proofs.Cards.Widening.{WritingWide, wide_start, wide_within, half_room, wide_room, wide_next, wide_end}
+use Rattle.translation.proofs.Cards.Widening.{wide_start, wide_within, half_room, wide_room, wide_next, wide_end}
 use Rattle.translation.proofs.card.wide_texts.Goals as goal
 
 pub loop-left-init : goal.loop-left-init

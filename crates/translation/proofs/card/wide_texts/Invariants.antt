@@ -1,8 +1,5 @@
 -- `card::wide_texts` meets its contract. Assumes nothing.
-use native.Mathlib.Omega.{arith}
-use borrow.Author.Rules.{rules}
-use Rattle.translation.proofs.Writing.{writes_length}
-use Rattle.translation.proofs.Cards.Widening.{WritingWide, wide_start, wide_within, half_room, wide_room, wide_next, wide_end}
+use Rattle.translation.proofs.Cards.Widening.{WritingWide}
 use Rattle.translation.proofs.card.wide_texts.Given as goal
 
 abbrev pub invariant-loop-left : goal.invariant-loop-left

@@ -1,6 +1,5 @@
 -- `write::back` meets its contract. Assumes nothing.
 use native.Mathlib.Omega.{arith}
-use borrow.Author.Rules.{rules}
 use Rattle.translation.proofs.Sheets.Adding.{back_none, back_room, back_some}
 use Rattle.translation.proofs.write.back.Goals as goal
 

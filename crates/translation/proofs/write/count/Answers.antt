@@ -1,8 +1,5 @@
 -- `write::count` meets its contract. Assumes nothing.
-use mathlib.Core.Logic.{⊎_elim}
-use Prim.Native.Nat.{◌-◌}
-use borrow.Author.Rules.{rules}
-use Rattle.translation.proofs.Sheets.Pairing.{Tally, tally_start, tally_more, tally_same, tally_end}
+use Rattle.translation.proofs.Sheets.Pairing.{tally_start, tally_more, tally_same, tally_end}
 use Rattle.translation.proofs.write.count.Goals as goal
 use Rattle.translation.proofs.write.count.Goals.{else-t-state, then-t-state}
 

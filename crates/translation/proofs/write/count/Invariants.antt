@@ -1,8 +1,6 @@
 -- `write::count` meets its contract. Assumes nothing.
-use mathlib.Core.Logic.{⊎_elim}
 use Prim.Native.Nat.{◌-◌}
-use borrow.Author.Rules.{rules}
-use Rattle.translation.proofs.Sheets.Pairing.{Tally, tally_start, tally_more, tally_same, tally_end}
+use Rattle.translation.proofs.Sheets.Pairing.{Tally}
 use Rattle.translation.proofs.write.count.Given as goal
 
 abbrev pub invariant-loop-i : goal.invariant-loop-i

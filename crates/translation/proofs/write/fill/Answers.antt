@@ -1,9 +1,7 @@
 -- `write::fill` meets its contract. Assumes nothing.
-use mathlib.Core.Path.{◌∙◌}
 use Prim.Native.Nat.{◌<◌}
 use borrow.Author.Rules.{rules}
 use native.Mathlib.Omega.{arith}
-use Rattle.translation.proofs.Writing.{writes_length}
 use Rattle.translation.proofs.Sheets.Filling.{network_small, few_texts, few_transitions, filled}
 use Rattle.translation.proofs.write.fill.Goals as goal
 

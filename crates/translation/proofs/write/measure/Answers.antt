@@ -1,6 +1,5 @@
 -- `write::measure` meets its contract. Assumes nothing.
 use mathlib.Core.Path.{refl}
-use borrow.Author.Rules.{rules}
 use Rattle.translation.proofs.Sheets.Filling.{measured}
 use Rattle.translation.proofs.write.measure.Goals as goal
 

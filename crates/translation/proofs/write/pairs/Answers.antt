@@ -1,9 +1,5 @@
 -- `write::pairs` meets its contract. Assumes nothing.
-use mathlib.Core.Logic.{⊎_elim}
-use Prim.Native.Nat.{◌-◌}
-use borrow.Author.Rules.{rules}
-use Rattle.translation.proofs.Writing.{writes_length}
-use Rattle.translation.proofs.Sheets.Pairing.{Listing, listing_start, listing_room, listing_more, listing_same, listing_end}
+use Rattle.translation.proofs.Sheets.Pairing.{listing_start, listing_room, listing_more, listing_same, listing_end}
 use Rattle.translation.proofs.write.pairs.Goals as goal
 use Rattle.translation.proofs.write.pairs.Goals.{else-t-state, then-t-state}
 

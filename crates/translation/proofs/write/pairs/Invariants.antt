@@ -1,9 +1,6 @@
 -- `write::pairs` meets its contract. Assumes nothing.
-use mathlib.Core.Logic.{⊎_elim}
 use Prim.Native.Nat.{◌-◌}
-use borrow.Author.Rules.{rules}
-use Rattle.translation.proofs.Writing.{writes_length}
-use Rattle.translation.proofs.Sheets.Pairing.{Listing, listing_start, listing_room, listing_more, listing_same, listing_end}
+use Rattle.translation.proofs.Sheets.Pairing.{Listing}
 use Rattle.translation.proofs.write.pairs.Given as goal
 
 abbrev pub invariant-loop-i : goal.invariant-loop-i

@@ -1,7 +1,6 @@
 -- `write::put` meets its contract. Assumes nothing.
-use mathlib.Core.Logic.{⊎_elim, inl, inr}
-use borrow.Author.Rules.{rules}
-use Rattle.translation.proofs.Writing.{stored_is, writes_length}
+use mathlib.Core.Logic.{inl, inr}
+use Rattle.translation.proofs.Writing.{stored_is}
 use Rattle.translation.proofs.write.put.Goals as goal
 use Rattle.translation.proofs.write.put.Goals.{else-at-out, then-at-out}
 

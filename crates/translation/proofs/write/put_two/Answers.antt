@@ -1,6 +1,5 @@
 -- `write::put_two` meets its contract. Assumes nothing.
 use mathlib.Core.List.{[], ◌∷◌}
-use borrow.Author.Rules.{rules}
 use native.Mathlib.Omega.{arith}
 use Rattle.translation.proofs.Writing.{writes_then}
 use Rattle.translation.proofs.write.put_two.Goals as goal

@@ -1,6 +1,5 @@
 -- `write::put_word` meets its contract. Assumes nothing.
 use mathlib.Core.List.{[], ◌∷◌}
-use borrow.Author.Rules.{rules}
 use Rattle.translation.proofs.Writing.{writes_then}
 use Rattle.translation.proofs.write.put_word.Goals as goal
 

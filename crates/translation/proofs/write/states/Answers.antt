@@ -1,10 +1,7 @@
 -- `write::states` meets its contract. Assumes nothing.
-use Prim.Native.Nat.{◌-◌}
-use borrow.Author.Rules.{rules}
 use Rattle.translation.specs.Translate.{joined}
 use Rattle.translation.specs.Walk.{back_at}
-use Rattle.translation.proofs.Writing.{writes_length}
-use Rattle.translation.proofs.Sheets.Adding.{Adding, adding_start, adding_room, adding_many, adding_next, adding_end}
+use Rattle.translation.proofs.Sheets.Adding.{adding_start, adding_room, adding_many, adding_next, adding_end}
 use Rattle.translation.proofs.write.states.Goals as goal
 
 pub loop-state-init : goal.loop-state-init

@@ -1,10 +1,8 @@
 -- `write::states` meets its contract. Assumes nothing.
 use Prim.Native.Nat.{◌-◌}
-use borrow.Author.Rules.{rules}
 use Rattle.translation.specs.Translate.{joined}
 use Rattle.translation.specs.Walk.{back_at}
-use Rattle.translation.proofs.Writing.{writes_length}
-use Rattle.translation.proofs.Sheets.Adding.{Adding, adding_start, adding_room, adding_many, adding_next, adding_end}
+use Rattle.translation.proofs.Sheets.Adding.{Adding}
 use Rattle.translation.proofs.write.states.Given as goal
 
 abbrev pub invariant-loop-state : goal.invariant-loop-state

@@ -1,7 +1,5 @@
 -- `write::tables` meets its contract. Assumes nothing.
-use borrow.Author.Rules.{rules}
 use native.Mathlib.Omega.{arith}
-use Rattle.translation.proofs.Writing.{writes_length}
 use Rattle.translation.proofs.Sheets.Tabling.{places_small, words_after, conditions_end, actions_end, added_few, room_first, next_first, room_second, next_second, read_second, room_true, next_true, room_third, next_third, room_empty, next_empty, room_fourth, next_fourth, room_fifth, next_fifth, room_sixth, tables_done}
 use Rattle.translation.proofs.write.tables.Goals as goal
 

@@ -1,16 +1,12 @@
 -- `write::templates` meets its contract. Assumes nothing.
-use mathlib.Core.Path.{refl}
 use mathlib.Core.List.{List, map}
 use Prim.Native.Nat.{ℕ}
-use native.Mathlib.Omega.{arith}
-use borrow.Author.Rules.{rules}
 use Rattle.sheet.specs.declared.Triple.{Triple}
 use Rattle.sheet.specs.Decode.{triple_form}
 use Rattle.sheet.specs.Table.{table}
 use Rattle.sheet.specs.Encode.{template_bytes, written}
 use Rattle.translation.specs.Translate.{template_of}
-use Rattle.translation.proofs.Writing.{writes_length}
-use Rattle.translation.proofs.Sheets.Putting.{Putting, putting_start, putting_room, putting_next, putting_end, written_map}
+use Rattle.translation.proofs.Sheets.Putting.{Putting}
 use Rattle.translation.proofs.write.templates.Given as goal
 
 abbrev pub bytes : Triple → List ℕ

@@ -1,8 +1,6 @@
 -- `write::texts` meets its contract. Assumes nothing.
-use borrow.Author.Rules.{rules}
 use native.Mathlib.Omega.{arith}
-use Rattle.translation.proofs.Writing.{writes_length}
-use Rattle.translation.proofs.Sheets.Copying.{WritingTexts, texts_start, text_within, texts_room, texts_next, texts_end}
+use Rattle.translation.proofs.Sheets.Copying.{texts_start, text_within, texts_room, texts_next, texts_end}
 use Rattle.translation.proofs.write.texts.Goals as goal
 
 pub loop-left-init : goal.loop-left-init

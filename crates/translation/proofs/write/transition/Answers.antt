@@ -1,5 +1,4 @@
 -- `write::transition` meets its contract. Assumes nothing.
-use borrow.Author.Rules.{rules}
 use Rattle.translation.proofs.Sheets.Adding.{entry_room, entry_then, exit_then}
 use Rattle.translation.proofs.write.transition.Goals as goal
 

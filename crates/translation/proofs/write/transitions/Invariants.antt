@@ -1,12 +1,8 @@
 -- `write::transitions` meets its contract. Assumes nothing.
-use mathlib.Core.Path.{refl}
-use native.Mathlib.Omega.{arith}
-use borrow.Author.Rules.{rules}
 use Rattle.sheet.specs.Decode.{transition_form}
 use Rattle.sheet.specs.Encode.{paired_bytes}
 use Rattle.translation.specs.Walk.{copied_at, copied_bytes}
-use Rattle.translation.proofs.Writing.{writes_length}
-use Rattle.translation.proofs.Sheets.Putting.{Putting, putting_start, putting_room, putting_next, putting_end, written_map}
+use Rattle.translation.proofs.Sheets.Putting.{Putting}
 use Rattle.translation.proofs.write.transitions.Given as goal
 
 abbrev pub invariant-loop-left : goal.invariant-loop-left

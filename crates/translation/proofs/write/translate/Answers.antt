@@ -1,5 +1,4 @@
 -- `write::translate` meets its contract. Assumes nothing.
-use borrow.Author.Rules.{rules}
 use native.Mathlib.Omega.{arith}
 use Rattle.translation.proofs.Sheets.Filling.{prepared_with, too_short, long_enough}
 use Rattle.translation.proofs.write.translate.Goals as goal

@@ -1,10 +1,7 @@
 -- `write::units` meets its contract. Assumes nothing.
 use Prim.Native.Nat.{◌-◌}
-use native.Mathlib.Omega.{arith}
-use borrow.Author.Rules.{rules}
 use Rattle.translation.specs.Walk.{back_at}
-use Rattle.translation.proofs.Writing.{writes_length}
-use Rattle.translation.proofs.Sheets.Adding.{Adding, adding_start, adding_room, adding_many, adding_next, adding_end}
+use Rattle.translation.proofs.Sheets.Adding.{Adding}
 use Rattle.translation.proofs.write.units.Given as goal
 
 abbrev pub invariant-loop-unit : goal.invariant-loop-unit

@@ -1,5 +1,4 @@
 -- `write::with_pairs` meets its contract. Assumes nothing.
-use borrow.Author.Rules.{rules}
 use Rattle.translation.proofs.Sheets.Adding.{counted_then}
 use Rattle.translation.proofs.write.with_pairs.Goals as goal
 

@@ -2,11 +2,9 @@
 use mathlib.Core.Path.{refl}
 use borrow.Author.Rules.{rules}
 use native.Mathlib.Omega.{arith}
-use Rattle.sheet.specs.Table.{table}
 use Rattle.sheet.specs.Decode.{word_form}
-use Rattle.sheet.specs.Encode.{word_bytes, written}
-use Rattle.translation.proofs.Writing.{writes_length}
-use Rattle.translation.proofs.Sheets.Putting.{Putting, putting_start, putting_room, putting_next, putting_end}
+use Rattle.sheet.specs.Encode.{word_bytes}
+use Rattle.translation.proofs.Sheets.Putting.{putting_start, putting_room, putting_next, putting_end}
 use Rattle.translation.proofs.write.words.Goals as goal
 
 pub loop-left-init : goal.loop-left-init
