@@ -1,2 +1,0 @@
--- What the functions for those who embed answer.
-mod Told
