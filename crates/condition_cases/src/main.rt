@@ -121,13 +121,13 @@ fn print_value<W: Write>(out: &mut W, v: CountedValue) -> io::Result<()> {
 }
 
 // The first variables after an action.
-fn print_performed<'a, W: Write>(
+fn print_performed<W: Write>(
     out: &mut W,
     text: &[u8],
-    programs: &'a [u32],
+    programs: &[u32],
     variables: [u32; 4],
     count: usize,
-    keeps: &'a [u32],
+    keeps: &[u32],
 ) -> io::Result<()> {
     let done = condition::perform(text, programs, variables, count, keeps);
     match done.answer {
