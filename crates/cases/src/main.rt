@@ -1,41 +1,37 @@
 // Runs framed inputs from standard input through the function that the program `watch` calls, and
 // prints the lines of each. reference/CASES.md has the format.
+#![tactic(auto)]
 
 ghost use Rattle.std.specs.Prelude.{◌≤◌, ◌<◌, length};
 
-use libc::{STDIN_FILENO, STDOUT_FILENO};
+use std::io;
+use std::io::{BufWriter, Read, Write};
 
-fn main() {
-    let mut left: u32 = 64;
-    while 0 < left {
-        if page() {} else {
-            return;
-        }
-        left -= 1;
+// Reads at most 64 pages of frames, and carries out one after the other.
+fn main(rt: HostRuntime) -> io::Result<()> {
+    let mut input = Vec::new(rt.alloc());
+    rt.stdin().take(64 * 65536).read_to_end(&mut input)?;
+    let mut out = BufWriter::new(rt.alloc(), rt.stdout())?;
+    for page in input.chunks(65536) {
+        script(&mut out, page)?;
     }
-}
-
-// Reads a page of frames and carries it out; answers whether there was one.
-fn page() -> bool {
-    let mut input = io::large_buffer();
-    let n = io::read_full(STDIN_FILENO, &mut input);
-    script(&input[..n]);
-    0 < n
+    out.flush()
 }
 
 // Carries out the frames of a page, to the end or to one that is cut short.
-fn script(s: &[u8])
+fn script<W: Write>(out: &mut W, s: &[u8]) -> io::Result<()>
     requires { length s.now ≤ 65536 }
 {
     let mut at = 0;
     while at < s.len() {
         let next = at + size(s, at);
         if s.len() < next {
-            return;
+            return Ok(());
         }
-        carry_out(s, at, next);
+        carry_out(out, s, at, next)?;
         at = next;
     }
+    Ok(())
 }
 
 // How many bytes the frame at a place has; more than there are where its code is wrong.
@@ -51,26 +47,26 @@ fn size(s: &[u8], at: usize) -> usize
 }
 
 // Prints the lines for the frame between two places.
-fn carry_out(s: &[u8], at: usize, next: usize)
+fn carry_out<W: Write>(out: &mut W, s: &[u8], at: usize, next: usize) -> io::Result<()>
     requires { at ≤ 65536 }
 {
     if byte(s, at) == 0 {
-        print_lines(part(s, at + 3, next));
+        print_lines(out, part(s, at + 3, next))
     } else {
-        print_zeros(byte(s, at + 1) * 65536 + short(s, at + 2));
+        print_zeros(out, byte(s, at + 1) * 65536 + short(s, at + 2))
     }
 }
 
 // Prints the lines for so many zeros, at most 65,537.
-fn print_zeros(n: usize) {
+fn print_zeros<W: Write>(out: &mut W, n: usize) -> io::Result<()> {
     let zeros = [0u8; 65537];
-    print_lines(part(&zeros, 0, n));
+    print_lines(out, part(&zeros, 0, n))
 }
 
-fn print_lines(input: &[u8]) {
-    let mut out = [0u8; 300];
-    let n = lines::lines(input, &mut out);
-    io::write_all(STDOUT_FILENO, &out[..n]);
+fn print_lines<W: Write>(out: &mut W, input: &[u8]) -> io::Result<()> {
+    let mut room = [0u8; 300];
+    let n = lines::lines(input, &mut room);
+    out.write_all(&room[..n])
 }
 
 // The bytes between two places; none where there are no such places.

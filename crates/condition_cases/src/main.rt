@@ -1,11 +1,12 @@
 // Evaluates, carries out and judges framed conditions, values and actions from standard input, and
 // prints a line for each. reference/CASES.md has the format of the frames and of the lines.
+#![tactic(auto)]
 
-ghost use Rattle.std.specs.Prelude.{◌+◌, ◌≤◌, ◌<◌, length};
+ghost use Rattle.std.specs.Prelude.{◌+◌, ◌≤◌, ◌<◌, length, IfOk};
 
 use condition::{ActionAnswer, ConditionAnswer, CountedCondition, CountedValue, Lent, ValueAnswer};
-
-const OUT: i32 = 1;
+use std::io;
+use std::io::{BufWriter, Read, Write};
 
 // The values of one kind in a frame, and the place behind them.
 #[derive(Drop)]
@@ -15,41 +16,35 @@ struct Bank {
     next: usize,
 }
 
-fn main() {
-    let mut left: u32 = 64;
-    while 0 < left {
-        if page() {} else {
-            return;
-        }
-        left -= 1;
+// Reads at most 64 pages of frames, and carries out one after the other.
+fn main(rt: HostRuntime) -> io::Result<()> {
+    let mut input = Vec::new(rt.alloc());
+    rt.stdin().take(64 * 65536).read_to_end(&mut input)?;
+    let mut out = BufWriter::new(rt.alloc(), rt.stdout())?;
+    for page in input.chunks(65536) {
+        script(&mut out, page)?;
     }
-}
-
-// Reads a page of frames and carries it out; answers whether there was one.
-fn page() -> bool {
-    let mut input = io::large_buffer();
-    let n = io::read_full(0, &mut input);
-    script(&input[..n]);
-    0 < n
+    out.flush()
 }
 
 // Carries out the frames of a page, to the end or to a byte that begins none.
-fn script(s: &[u8])
+fn script<W: Write>(out: &mut W, s: &[u8]) -> io::Result<()>
     requires { length s.now ≤ 65536 }
 {
     let mut at = 0;
     while at < s.len() {
-        at = frame(s, at);
+        at = frame(out, s, at)?;
     }
+    Ok(())
 }
 
 // Runs the frame at a place: the place behind it. One that is cut short or of another kind ends the page.
-fn frame(s: &[u8], at: usize) -> usize
+fn frame<W: Write>(out: &mut W, s: &[u8], at: usize) -> io::Result<usize>
     requires { (length s.now ≤ 65536) × (at < length s.now) }
-    ensures { at < result }
+    ensures { IfOk result (λ next. at < next) }
 {
     if 4 < byte(s, at) {
-        return s.len();
+        return Ok(s.len());
     }
     let size = byte(s, at + 1) * 256 + byte(s, at + 2);
     let text = part(s, at + 3, size);
@@ -57,128 +52,125 @@ fn frame(s: &[u8], at: usize) -> usize
     let monitor = read_bank(s, program.next);
     let kept = read_bank(s, monitor.next);
     if kept.next <= s.len() {
-        answer(byte(s, at), text, program, monitor, kept);
+        answer(out, byte(s, at), text, &program, &monitor, &kept)?;
     }
-    kept.next
+    Ok(kept.next)
 }
 
-fn answer(kind: usize, text: &[u8], program: Bank, monitor: Bank, kept: Bank) {
-    let p = program.words;
+fn answer<W: Write>(
+    out: &mut W,
+    kind: usize,
+    text: &[u8],
+    program: &Bank,
+    monitor: &Bank,
+    kept: &Bank,
+) -> io::Result<()> {
     let m = monitor.words;
-    let k = kept.words;
-    let programs = condition::front(&p, program.count);
+    let programs = condition::front(&program.words, program.count);
     let monitors = condition::front(&m, monitor.count);
-    let keeps = condition::front(&k, kept.count);
+    let keeps = condition::front(&kept.words, kept.count);
     let lent = Lent {
         programs: program.count,
         monitors: monitor.count,
         kept: kept.count,
     };
     match kind {
-        0 => print_condition(condition::evaluate_condition(text, programs, monitors, keeps)),
-        1 => print_value(condition::evaluate_value(text, programs, monitors, keeps)),
+        0 => print_condition(
+            out,
+            condition::evaluate_condition(text, programs, monitors, keeps),
+        )?,
+        1 => print_value(
+            out,
+            condition::evaluate_value(text, programs, monitors, keeps),
+        )?,
         2 => print_performed(
+            out,
             text,
             programs,
             [m[0], m[1], m[2], m[3]],
             monitor.count,
             keeps,
-        ),
+        )?,
         3 => {
-            print_bit(condition::is_condition(text, lent));
-            print_bit(condition::condition_has_entry(text, lent));
-            print_bit(condition::condition_has_monitor(text, lent));
+            print_bit(out, condition::is_condition(text, lent))?;
+            print_bit(out, condition::condition_has_entry(text, lent))?;
+            print_bit(out, condition::condition_has_monitor(text, lent))?;
         }
         _ => {
-            print_bit(condition::is_action(text, lent));
-            print_bit(condition::action_has_entry(text, lent));
+            print_bit(out, condition::is_action(text, lent))?;
+            print_bit(out, condition::action_has_entry(text, lent))?;
         }
     }
-    io::write_all(OUT, b"\n");
+    writeln!(out)
 }
 
-fn print_condition(c: CountedCondition) {
-    let answer = c.answer;
-    match answer {
-        ConditionAnswer::Is(b) => {
-            if b {
-                io::write_all(OUT, b"true");
-            } else {
-                io::write_all(OUT, b"false");
-            }
-        }
-        ConditionAnswer::Refused(n) => print_refused(n),
+fn print_condition<W: Write>(out: &mut W, c: CountedCondition) -> io::Result<()> {
+    match c.answer {
+        ConditionAnswer::Is(b) => write!(out, "{b}")?,
+        ConditionAnswer::Refused(n) => print_refused(out, n)?,
     }
-    print_count(c.count);
+    print_count(out, c.count)
 }
 
-fn print_value(v: CountedValue) {
-    let answer = v.answer;
-    match answer {
-        ValueAnswer::Is(w) => print_signed(w),
-        ValueAnswer::Refused(n) => print_refused(n),
+fn print_value<W: Write>(out: &mut W, v: CountedValue) -> io::Result<()> {
+    match v.answer {
+        ValueAnswer::Is(w) => print_signed(out, w)?,
+        ValueAnswer::Refused(n) => print_refused(out, n)?,
     }
-    print_count(v.count);
+    print_count(out, v.count)
 }
 
 // The first variables after an action.
-fn print_performed<'a>(
+fn print_performed<'a, W: Write>(
+    out: &mut W,
     text: &[u8],
     programs: &'a [u32],
     variables: [u32; 4],
     count: usize,
     keeps: &'a [u32],
-) {
+) -> io::Result<()> {
     let done = condition::perform(text, programs, variables, count, keeps);
-    let answer = done.answer;
-    let after = done.variables;
-    match answer {
-        ActionAnswer::Done => print_variables(after, count),
-        ActionAnswer::Refused(n) => print_refused(n),
+    match done.answer {
+        ActionAnswer::Done => print_variables(out, done.variables, count)?,
+        ActionAnswer::Refused(n) => print_refused(out, n)?,
     }
-    print_count(done.count);
+    print_count(out, done.count)
 }
 
 // How much was evaluated.
-fn print_count(n: u32) {
-    io::write_all(OUT, b" count ");
-    io::print_decimal(OUT, n as u64);
+fn print_count<W: Write>(out: &mut W, n: u32) -> io::Result<()> {
+    write!(out, " count {n}")
 }
 
-fn print_variables(variables: [u32; 4], count: usize) {
-    io::write_all(OUT, b"done");
-    print_if(0 < count, variables[0]);
-    print_if(1 < count, variables[1]);
-    print_if(2 < count, variables[2]);
-    print_if(3 < count, variables[3]);
-}
-
-fn print_if(wanted: bool, w: u32) {
-    if wanted {
-        io::write_all(OUT, b" ");
-        print_signed(w);
+fn print_variables<W: Write>(out: &mut W, variables: [u32; 4], count: usize) -> io::Result<()> {
+    write!(out, "done")?;
+    for (i, w) in variables.iter().enumerate() {
+        if i < count {
+            write!(out, " ")?;
+            print_signed(out, *w)?;
+        }
     }
+    Ok(())
 }
 
-fn print_refused(n: u8) {
-    io::write_all(OUT, b"refused ");
-    io::print_decimal(OUT, n as u64);
+fn print_refused<W: Write>(out: &mut W, n: u8) -> io::Result<()> {
+    write!(out, "refused {n}")
 }
 
-fn print_signed(w: u32) {
+fn print_signed<W: Write>(out: &mut W, w: u32) -> io::Result<()> {
     if w < 2147483648 {
-        io::print_decimal(OUT, w as u64);
+        write!(out, "{w}")
     } else {
-        io::write_all(OUT, b"-");
-        io::print_decimal(OUT, 4294967296 - (w as u64));
+        let below = 4294967296 - u64::from(w);
+        write!(out, "-{below}")
     }
 }
 
-fn print_bit(b: bool) {
+fn print_bit<W: Write>(out: &mut W, b: bool) -> io::Result<()> {
     if b {
-        io::write_all(OUT, b"1");
+        write!(out, "1")
     } else {
-        io::write_all(OUT, b"0");
+        write!(out, "0")
     }
 }
 
@@ -215,10 +207,8 @@ fn read_bank(s: &[u8], at: usize) -> Bank
 {
     let count = byte(s, at);
     let mut words = [0u32; 256];
-    let mut i = 0;
-    while i < count {
+    for i in 0..count {
         words[i] = word(s, at + 1 + 4 * i);
-        i += 1;
     }
     Bank {
         count,

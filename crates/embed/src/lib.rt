@@ -1,4 +1,5 @@
 // WATCH for those who embed it in C or Rust: each operation as a function with plain arguments.
+#![tactic(auto)]
 
 ghost use Rattle.std.specs.Prelude.{◌≡◌, ◌≤◌, length};
 ghost use Rattle.std.proofs.lemmas.List.Edits.{sets};

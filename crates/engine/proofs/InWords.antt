@@ -1,7 +1,6 @@
 -- One event in words: the row of calls, and the functions of `event`, `row` and `advance`.
 pub mod Entries
 pub mod Chains
-pub mod Places
 pub mod Rowing
 pub mod Refused
 pub mod Arming

@@ -32,40 +32,43 @@ use Rattle.engine.proofs.InWords.Rowing.{reads, reads_all, reads_some}
 
 -- a call's words stored one by one
 module _ (row : List ℕ) (i : ℕ) (c : Call) (a : Arms) where
+  abbrev at : ℕ
+  at = 16 * i
+
   pub put_nothing : 16 ≤ i → row ≡ put_at row i c a
   unfolding put_at
   put_nothing h = rw (le-ltb i 16 h)
 
-  pub put_there : (at : ℕ) → at ≡ 16 * i → i < 16 → (n u k x y z w : ℕ) → n ≡ c.number → u ≡ c.unit → k ≡ a.count → x ≡ get_or a.numbers 0 0 → y ≡ get_or a.numbers 1 0 → z ≡ get_or a.numbers 2 0 → w ≡ get_or a.numbers 3 0
+  pub put_there : i < 16 → (n u k x y z w : ℕ) → n ≡ c.number → u ≡ c.unit → k ≡ a.count → x ≡ get_or a.numbers 0 0 → y ≡ get_or a.numbers 1 0 → z ≡ get_or a.numbers 2 0 → w ≡ get_or a.numbers 3 0
       → length a.numbers ≡ 4 → length c.kept ≡ 8
-      → set (set (set (set (set (set (set (set (set (set (set (set (set (set (set (set row (at) n) (at + 1) u) (at + 2) k) (at + 3) x) (at + 4) y) (at + 5) z) (at + 6) w) (at + 7) c.entry)
-      (at + 8) (get_or c.kept 0 0)) (at + 9) (get_or c.kept 1 0)) (at + 10) (get_or c.kept 2 0)) (at + 11) (get_or c.kept 3 0)) (at + 12) (get_or c.kept 4 0)) (at + 13) (get_or c.kept 5 0)) (at + 14) (get_or c.kept 6 0)) (at + 15) (get_or c.kept 7 0)
+      → set (set (set (set (set (set (set (set (set (set (set (set (set (set (set (set row (16 * i) n) (16 * i + 1) u) (16 * i + 2) k) (16 * i + 3) x) (16 * i + 4) y) (16 * i + 5) z) (16 * i + 6) w) (16 * i + 7) c.entry)
+      (16 * i + 8) (get_or c.kept 0 0)) (16 * i + 9) (get_or c.kept 1 0)) (16 * i + 10) (get_or c.kept 2 0)) (16 * i + 11) (get_or c.kept 3 0)) (16 * i + 12) (get_or c.kept 4 0)) (16 * i + 13) (get_or c.kept 5 0)) (16 * i + 14) (get_or c.kept 6 0)) (16 * i + 15) (get_or c.kept 7 0)
       ≡ put_at row i c a
   unfolding put_at
-  put_there at there h n u k x y z w en eu ek ex ey ez ew four eight =
+  put_there h n u k x y z w en eu ek ex ey ez ew four eight =
       rw (lt-ltb i 16 h, add-suc at 14, add-suc at 13, add-suc at 12, add-suc at 11, add-suc at 10, add-suc at 9, add-suc at 8, add-suc at 7, add-suc at 6, add-suc at 5, add-suc at 4, add-suc at 3, add-suc at 2, add-suc at 1, add-one at)
       ((λ j. sets row at (en j ∷ eu j ∷ ek j ∷ ex j ∷ ey j ∷ ez j ∷ ew j ∷ c.entry ∷ reads c.kept 0 8))
-      ∙ (λ j. sets row at (c.number ∷ c.unit ∷ a.count ∷ (reads_all 4 0 a.numbers four j ++ c.entry ∷ reads_all 8 0 c.kept eight j)))
-      ∙ ap (λ (k : ℕ). sets row k (words_of c a)) there)
+      ∙ (λ j. sets row at (c.number ∷ c.unit ∷ a.count ∷ (reads_all 4 0 a.numbers four j ++ c.entry ∷ reads_all 8 0 c.kept eight j))))
 
 -- what is taken out, by the words from its place on
-word_there : (row : List ℕ) (at j : ℕ) → get_or row (at + j) 0 ≡ get_or (drop at row) j 0
-word_there row at j = sym (get_or-drop at row j 0)
+word_there : (row : List ℕ) (i j : ℕ) → get_or row (16 * i + j) 0 ≡ get_or (drop (16 * i) row) j 0
+word_there row i j = sym (get_or-drop (16 * i) row j 0)
 
 module _ (row : List ℕ) (i : ℕ) where
   pub no_call_there : (P : ℕ) → 16 ≤ i → (r : Call) → r ≡ zero_call → r ≡ call_at row i P
   unfolding call_at
   no_call_there P h r e = rw (le-ltb i 16 h) e
 
-  pub call_there : (P at : ℕ) → at ≡ 16 * i → i < 16 → (program kept : List ℕ) → program ≡ take P (take (at + 16 - (at + 8)) (drop (at + 8) row)) → kept ≡ fit 8 0 program
-      → record { number = get_or row (at) 0 % 65536; unit = get_or row (at + 1) 0 % 256; entry = get_or row (at + 7) 0; kept = kept } ≡ call_at row i P
+  pub call_there : (P : ℕ) → i < 16 → (program kept : List ℕ) → program ≡ take P (take (16 * i + 16 - (16 * i + 8)) (drop (16 * i + 8) row)) → kept ≡ fit 8 0 program
+      → record { number = get_or row (16 * i) 0 % 65536; unit = get_or row (16 * i + 1) 0 % 256; entry = get_or row (16 * i + 7) 0; kept = kept } ≡ call_at row i P
   unfolding call_at
-  call_there P at there h program kept e f =
-      let first : get_or row at 0 ≡ get_or (drop at row) 0 0 = ap (λ (k : ℕ). get_or row k 0) {x = at} {y = at + 0} (omega arith) ∙ word_there row at 0 in
+  call_there P h program kept e f =
+      let at = 16 * i in
+      let first : get_or row at 0 ≡ get_or (drop at row) 0 0 = ap (λ (k : ℕ). get_or row k 0) {x = at} {y = at + 0} (omega arith) ∙ word_there row i 0 in
       let eight : at + 16 - (at + 8) ≡ 8 = omega arith in
       let whole : take (at + 16 - (at + 8)) (drop (at + 8) row) ≡ take 8 (drop 8 (drop at row)) = ap (λ (k : ℕ). take k (drop (at + 8) row)) eight ∙ ap (take 8) (sym (drop-drop 8 at row)) in
       let values : kept ≡ fit 8 0 (take P (take 8 (drop 8 (drop at row)))) = f ∙ ap (fit 8 0) (e ∙ ap (take P) whole) in
-      rw (lt-ltb i 16 h, ← there) (λ j. record { number = first j % 65536; unit = word_there row at 1 j % 256; entry = word_there row at 7 j; kept = values j })
+      rw (lt-ltb i 16 h) (λ j. record { number = first j % 65536; unit = word_there row i 1 j % 256; entry = word_there row i 7 j; kept = values j })
 
   pub no_arms_there : 16 ≤ i → record { count = 0; numbers = 0 ∷ 0 ∷ 0 ∷ 0 ∷ [] } ≡ arms_at row i
   unfolding arms_at
@@ -85,22 +88,22 @@ four_numbers f (suc (suc (suc (suc k)))) n x y z w e =
 four_there : (l : List ℕ) → 7 ≤ length l → take 4 (drop 3 l) ≡ get_or l 3 0 ∷ get_or l 4 0 ∷ get_or l 5 0 ∷ get_or l 6 0 ∷ []
 four_there l h = reads_some 4 3 l h
 
-pub arms_there_lem : (row : List ℕ) (i at : ℕ) → at ≡ 16 * i → i < 16 → length row ≡ 256 → (n : ℕ) → n ≡ min (get_or row (at + 2) 0) 4 → (x y z w : ℕ)
-    → x ≡ cond (ltb 0 n) (get_or row (at + 3) 0 % 256) 0 → y ≡ cond (ltb 1 n) (get_or row (at + 4) 0 % 256) 0 → z ≡ cond (ltb 2 n) (get_or row (at + 5) 0 % 256) 0 → w ≡ cond (ltb 3 n) (get_or row (at + 6) 0 % 256) 0
+pub arms_there_lem : (row : List ℕ) (i : ℕ) → i < 16 → length row ≡ 256 → (n : ℕ) → n ≡ min (get_or row (16 * i + 2) 0) 4 → (x y z w : ℕ)
+    → x ≡ cond (ltb 0 n) (get_or row (16 * i + 3) 0 % 256) 0 → y ≡ cond (ltb 1 n) (get_or row (16 * i + 4) 0 % 256) 0 → z ≡ cond (ltb 2 n) (get_or row (16 * i + 5) 0 % 256) 0 → w ≡ cond (ltb 3 n) (get_or row (16 * i + 6) 0 % 256) 0
     → record { count = n; numbers = x ∷ y ∷ z ∷ w ∷ [] } ≡ arms_at row i
 unfolding arms_at
-arms_there_lem row i at place h long n en x y z w ex ey ez ew =
-    let m = drop (at) row in
+arms_there_lem row i h long n en x y z w ex ey ez ew =
+    let m = drop (16 * i) row in
     let f : ℕ → ℕ = λ k. k % 256 in
-    let there : (j : ℕ) → get_or row (at + j) 0 ≡ get_or m j 0 = word_there row at in
+    let there : (j : ℕ) → get_or row (16 * i + j) 0 ≡ get_or m j 0 = word_there row i in
     let count : n ≡ min (get_or m 2 0) 4 = en ∙ ap (λ (k : ℕ). min k 4) (there 2) in
-    let four = four_there m (omega (arith, length-drop (at) row)) in
+    let four = four_there m (omega (arith, length-drop (16 * i) row)) in
     let many : length (take (get_or m 2 0) (take 4 (drop 3 m))) ≡ n = length-take (get_or m 2 0) (take 4 (drop 3 m)) ∙ ap (λ (l : List ℕ). min (get_or m 2 0) (length l)) four ∙ sym count in
     let shown : ℕ → ℕ → ℕ = λ k j. cond (ltb k n) (f j) 0 in
     let numbers : x ∷ y ∷ z ∷ w ∷ [] ≡ fit 4 0 (map f (take (get_or m 2 0) (take 4 (drop 3 m)))) =
     (λ j. ex j ∷ ey j ∷ ez j ∷ ew j ∷ []) ∙ (λ j. shown 0 (there 3 j) ∷ shown 1 (there 4 j) ∷ shown 2 (there 5 j) ∷ shown 3 (there 6 j) ∷ [])
     ∙ sym (four_numbers f (get_or m 2 0) n (get_or m 3 0) (get_or m 4 0) (get_or m 5 0) (get_or m 6 0) count) ∙ ap (λ (l : List ℕ). fit 4 0 (map f (take (get_or m 2 0) l))) (sym four) in
-    rw (lt-ltb i 16 h, ← place) (λ j. record { count = sym many j; numbers = numbers j })
+    rw (lt-ltb i 16 h) (λ j. record { count = sym many j; numbers = numbers j })
 
 -- One more call in a row: those before it, and its words.
 words_length : (c : Call) (a : Arms) → length c.kept ≡ 8 → length a.numbers ≡ 4 → length (words_of c a) ≡ 16

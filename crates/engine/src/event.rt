@@ -7,7 +7,6 @@ ghost use Rattle.step.specs.Calls.{most_calls, most_armed};
 ghost use Rattle.engine.specs.Plan.{cell_of, candidate_of, post_of};
 ghost use Rattle.engine.specs.Walk.{holds_by, count_by, found_in, found_count, armed_in, armed_count, low_in, low_count, main_after, variables_after, action_count_after, run_after, words, entered_in, exited_in, entered_count, exited_count};
 
-use crate::sums::{four_times, sixteen_times, thrice, twice};
 use crate::{Given, PLAN, Running, broad, long, place, row, wide};
 use condition::{Held, VARIABLES};
 use step::{ARMED, VALUES};
@@ -67,8 +66,8 @@ pub(crate) fn entered(
     let program = condition::front(&values[..], broad(plan[1]));
     let monitor = condition::front(&variables[..], broad(plan[2]));
     let cell = cell_of(run.main, given.unit);
-    let found = find(s, plan, broad(plan[8 + twice(cell)]), program, monitor);
-    let at = sixteen_times(wide(run.opened));
+    let found = find(s, plan, broad(plan[8 + 2 * cell]), program, monitor);
+    let at = 16 * wide(run.opened);
     let first = candidate(plan, cell, found.transition);
     row::put(row, at, given, run.position + 1, values);
     let asked = arm(s, plan, first, program, monitor, row, at);
@@ -99,7 +98,7 @@ pub(crate) fn exited(
     let entry = row[leaving.place + 7];
     row::close(row, leaving.place, wide(run.opened));
     let cell = cell_of(run.main, leaving.unit);
-    let found = find(s, plan, broad(plan[9 + twice(cell)]), program, monitor);
+    let found = find(s, plan, broad(plan[9 + 2 * cell]), program, monitor);
     let to = moved(s, plan, found.transition, run.main, variables, values);
     Taken {
         run: after(
@@ -133,7 +132,7 @@ fn after(plan: &[u16; PLAN], position: u32, main: u8, opened: u8, low: u16, entr
 pub(crate) fn cell_of(main: u8, unit: u8) -> usize
     ensures { (result ≡ cell_of main unit) × (result < 256) }
 {
-    (sixteen_times(wide(main)) + wide(unit)) % 256
+    (16 * wide(main) + wide(unit)) % 256
 }
 
 // The first candidate of an entry: of its state and unit, or of the transition that is taken.
@@ -162,8 +161,7 @@ fn find<'a>(
     let mut t = first;
     let mut count = 0;
     while t < 96 {
-        let at = 552 + four_times(t);
-        let held = holds(s, broad(plan[at]), program, monitor, &program[..0]);
+        let held = holds(s, broad(plan[552 + 4 * t]), program, monitor, &program[..0]);
         count += held.count;
         if held.holds {
             return Found {
@@ -171,7 +169,7 @@ fn find<'a>(
                 count,
             };
         }
-        t = t + 1 + broad(plan[at + 3]);
+        t = t + 1 + broad(plan[555 + 4 * t]);
     }
     Found {
         transition: 96,
@@ -193,15 +191,14 @@ fn moved(
     ensures { (result.main ≡ main_after plan.now t main) × (variables.new ≡ variables_after s.now plan.now t values.now variables.old) × (result.count ≡ action_count_after s.now plan.now t values.now variables.old) }
 {
     if t < 96 {
-        let at = 552 + four_times(t);
-        let action = broad(plan[at + 1]);
+        let at = broad(plan[553 + 4 * t]);
         let mut count = 0;
-        if action == 0 {} else {
+        if at == 0 {} else {
             let program = condition::front(&values[..], broad(plan[1]));
-            count = condition::perform_at(s, action, program, variables, broad(plan[2]));
+            count = condition::perform_at(s, at, program, variables, broad(plan[2]));
         }
         Led {
-            main: (plan[at + 2] % 256) as u8,
+            main: (plan[554 + 4 * t] % 256) as u8,
             count,
         }
     } else {
@@ -229,17 +226,22 @@ fn arm<'a>(
     let mut to = at + 3;
     let mut i = first;
     while i < 384 {
-        let from = 1192 + thrice(i);
-        let held = holds(s, broad(plan[from]), program, monitor, &program[..0]);
+        let held = holds(
+            s,
+            broad(plan[1192 + 3 * i]),
+            program,
+            monitor,
+            &program[..0],
+        );
         evaluated += held.count;
         if held.holds {
             if count < MOST_ARMED {
-                row[to] = long(plan[from + 1]);
+                row[to] = long(plan[1193 + 3 * i]);
                 to += 1;
             }
             count += 1;
         }
-        i = i + 1 + broad(plan[from + 2]);
+        i = i + 1 + broad(plan[1194 + 3 * i]);
     }
     row[at + 2] = count;
     evaluated

@@ -11,7 +11,6 @@ ghost use Rattle.step.specs.Calls.{most_values};
 ghost use Rattle.step.specs.Answers.{run_paper, ran_answer};
 ghost use Rattle.engine.specs.Runs.{start_in, follow_in, follow_count, ends_by, given_at};
 
-use crate::sums::four_times;
 use crate::{Given, PLAN, Running, advance, place, wide};
 use condition::VARIABLES;
 use step::{Counted, Outcome, RunAnswer, VALUES};
@@ -23,7 +22,7 @@ pub(crate) fn follow(s: &[u8], plan: &[u16; PLAN], log: &[u8], programs: u8) -> 
     ensures count_value { result.count ≡ follow_count s.now plan.now (events_of programs log.now) }
 {
     let count = wide(programs);
-    let size = 4 + four_times(count);
+    let size = 4 + 4 * count;
     let end = place(sheet::word_at(log, 0));
     let mut run = started(s);
     let mut row = [0u32; 256];

@@ -23,7 +23,6 @@ mod follow;
 pub mod pack;
 mod plan;
 mod row;
-mod sums;
 
 // The words of a plan, and the number of no transition and of no candidate: what a plan has everywhere
 // before it is made.

@@ -5,7 +5,6 @@ ghost use Rattle.step.specs.Calls.{most_values, most_armed, event_of};
 ghost use Rattle.engine.specs.Packed.{put_at, call_at, arms_at};
 ghost use Rattle.engine.specs.Walk.{given_of};
 
-use crate::sums::sixteen_times;
 use crate::{Given, event, long, word};
 use sheet::Record;
 use step::{ARMED, CALLS, Call};
@@ -26,7 +25,7 @@ pub fn put(row: &mut [u32; 256], i: usize, call: Call, arms: Arms)
     let kept = call.kept;
     let numbers = arms.numbers;
     if i < CALLS {
-        let at = sixteen_times(i);
+        let at = 16 * i;
         row[at] = number;
         row[at + 1] = unit;
         row[at + 2] = word(arms.count);
@@ -54,7 +53,7 @@ pub fn call_at(row: &[u32; 256], i: usize, programs: usize) -> Call
         return step::rows::no_call();
     }
     let all = &row[..];
-    let at = sixteen_times(i);
+    let at = 16 * i;
     Call {
         number: (all[at] % 65536) as u16,
         unit: (all[at + 1] % 256) as u8,
@@ -74,7 +73,7 @@ pub fn arms_at(row: &[u32; 256], i: usize) -> Arms
         };
     }
     let all = &row[..];
-    let at = sixteen_times(i);
+    let at = 16 * i;
     let count = event::four(all[at + 2]);
     Arms {
         count: count as u8,

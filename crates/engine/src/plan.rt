@@ -11,7 +11,6 @@ ghost use Rattle.engine.specs.Plan.{absent, key_of};
 ghost use Rattle.engine.specs.Prepared.{start_of, text_place, action_place, linked, with_transition, with_pairs, with_transitions, with_triple, post_words, head_words, sheet_into, network_into};
 
 use crate::event::cell_of;
-use crate::sums::{four_times, thrice, twice};
 use crate::{ABSENT, PLAN, short, wide, word};
 use sheet::Header;
 
@@ -90,8 +89,7 @@ fn size(s: &[u8], at: u32, paired: bool) -> u32
     ensures { (result ≡ (base_form paired).size (drop at s.now)) × (result ≤ 517) }
 {
     if paired {
-        let n = word(sheet::byte_at(s, at + 6));
-        7 + n + n
+        7 + 2 * word(sheet::byte_at(s, at + 6))
     } else {
         6
     }
@@ -136,7 +134,7 @@ fn transition(
     let t = sheet::transition_at(s, at);
     let key = 8 + key_of(t.from, t.unit, t.kind);
     let gap = behind(plan[key], i);
-    let to = 552 + four_times(i);
+    let to = 552 + 4 * i;
     plan[to] = text(s, conditions, t.condition);
     plan[to + 1] = action(s, actions, t.action);
     plan[to + 2] = short(t.to);
@@ -152,8 +150,7 @@ fn pairs(s: &[u8], conditions: &[u32; 161], i: usize, at: u32, plan: &mut [u16; 
     let n = at_most(sheet::byte_at(s, at + 6), 4);
     let mut left = n;
     let mut from = at + 7;
-    let first = four_times(i);
-    let mut to = 1192 + thrice(first);
+    let mut to = 1192 + 12 * i;
     while 0 < left {
         left -= 1;
         let p = sheet::pair_at(s, from);
@@ -163,7 +160,7 @@ fn pairs(s: &[u8], conditions: &[u32; 161], i: usize, at: u32, plan: &mut [u16; 
         from += 2;
         to += 3;
     }
-    plan[936 + i] = pick(n == 0, first as u16);
+    plan[936 + i] = pick(n == 0, 4 * (i as u16));
 }
 
 // A number, or that of none.
@@ -179,7 +176,7 @@ fn triples(s: &[u8], conditions: &[u32; 161], at: u32, n: usize, plan: &mut [u16
     ensures { plan.new ≡ linked (with_triple s.now conditions.now) 0 (starts triple_form n s.now at) plan.old }
 {
     let mut i = n;
-    let mut here = at + (four_times(n) as u32);
+    let mut here = at + 4 * (n as u32);
     while 0 < i {
         i -= 1;
         here -= 4;
@@ -195,7 +192,7 @@ fn triple(s: &[u8], conditions: &[u32; 161], i: usize, at: u32, plan: &mut [u16;
     let t = sheet::triple_at(s, at);
     let cell = 936 + cell_of(t.state, t.unit);
     let gap = behind(plan[cell], i);
-    let to = 1192 + thrice(i);
+    let to = 1192 + 3 * i;
     plan[to] = text(s, conditions, t.precondition);
     plan[to + 1] = i as u16;
     plan[to + 2] = gap;
@@ -268,5 +265,5 @@ fn behind(next: u16, i: usize) -> u16
 fn key_of(state: u8, unit: u8, kind: u8) -> usize
     ensures { (result ≡ key_of state unit kind) × (result < 512) }
 {
-    (twice(cell_of(state, unit)) + wide(kind)) % 512
+    (2 * cell_of(state, unit) + wide(kind)) % 512
 }

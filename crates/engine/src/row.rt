@@ -6,7 +6,6 @@ ghost use Rattle.std.proofs.lemmas.List.Edits.{sets};
 ghost use Rattle.step.specs.Calls.{most_calls};
 ghost use Rattle.engine.specs.Walk.{place_in, entry_refusal, exit_refusal, refusal_in, row_without};
 
-use crate::sums::sixteen_times;
 use crate::{Given, PLAN, Running, broad, long, wide, word};
 use step::{CALLS, VALUES};
 
@@ -15,7 +14,7 @@ pub(crate) fn place_of(row: &[u32; 256], opened: usize, number: u32) -> usize
     requires { opened ≤ most_calls }
     ensures { result ≡ place_in number opened row.now }
 {
-    let end = sixteen_times(opened);
+    let end = 16 * opened;
     let mut at = 0;
     while at < end {
         if row[at] == number {
@@ -61,7 +60,7 @@ fn entry_refusal(opened: usize, place: usize) -> u8
     requires { opened ≤ most_calls }
     ensures { result ≡ entry_refusal opened place }
 {
-    if place < sixteen_times(opened) {
+    if place < 16 * opened {
         13
     } else {
         if opened < CALLS { 0 } else { 14 }
@@ -73,7 +72,7 @@ fn exit_refusal(row: &[u32; 256], opened: usize, place: usize, unit: u32) -> u8
     requires { (opened ≤ most_calls) × (place < 16 * opened → place + 16 ≤ 256) }
     ensures { result ≡ exit_refusal row.now opened place unit }
 {
-    if place < sixteen_times(opened) {
+    if place < 16 * opened {
         if row[place + 1] == unit { 0 } else { 15 }
     } else {
         15
@@ -106,7 +105,7 @@ pub(crate) fn close(row: &mut [u32; 256], place: usize, opened: usize)
     ensures { row.new ≡ row_without row.old place opened }
 {
     let all = &mut row[..];
-    let end = sixteen_times(opened);
+    let end = 16 * opened;
     let mut to = place;
     let mut from = to + 16;
     while from < end {

@@ -1,57 +1,52 @@
--- The digits that `io` makes of a number are its decimal. Assumes nothing.
+-- The decimal of a number, by its last digit and the rest. Assumes nothing.
 use mathlib.Core.Path.{◌≡◌, refl}
 use mathlib.Core.Bool.{Bool, true, false}
-use Prim.Native.Nat.{ℕ, zero, suc, ◌-◌, ◌/◌, ◌%◌, ◌^◌, ◌≤◌, ◌<◌}
-use native.Mathlib.Nat.{pow-suc, one-le-pow, pow-le-pow_right, mod-lt, mod-eq_of_lt, le-div_iff_mul-le, div-lt_iff_lt-mul, div-lt_self}
+use mathlib.Core.List.{[], ◌∷◌, ◌++◌}
+use Prim.Native.Nat.{ℕ, zero, suc, ◌/◌, ◌%◌, ◌^◌, ◌≤◌, ◌<◌}
+use native.Mathlib.Nat.{pow-suc, div-lt_iff_lt-mul, div-lt_self}
 use native.Mathlib.Omega.{arith}
-use borrow.Author.Tests.{leb-true, leb-false, lt-ltb, le-ltb}
-use lib.Dec.{leb}
-use Rattle.io.specs.Digits.{hex_digit_ascii, last_digits, IsDigitCount}
+use borrow.Author.Tests.{ltb-false, lt-ltb, le-ltb}
+use lib.Dec.{ltb}
+use lib.ListN.{length, length-append}
 use Rattle.lines.specs.Text.{digit, decimal_from, decimal}
 
--- one digit
-glyph_digit : (d : ℕ) → d < 10 → hex_digit_ascii d ≡ digit d
-glyph_digit d h = rw (lt-ltb d 10 h)
-
--- a number of k + 2 digits has ten or more, and without its last digit it has k + 1
-module _ (n k : ℕ) (h : IsDigitCount 10 1 n (suc (suc k))) where
-  low : 10 ^ suc k ≤ n
-  low =
-      let e : suc (suc k) - 1 ≡ suc k = omega arith in
-      rw e at (h.2 (omega arith))
-
-  ten : 10 ≤ n
-  ten = omega (arith, low, pow-suc 10 k, one-le-pow k 10 (omega arith))
-
-  fewer : IsDigitCount 10 1 (n / 10) (suc k)
-  fewer =
-      let e : suc k - 1 ≡ k = omega arith in (
-        omega arith,
-        (div-lt_iff_lt-mul {k = 10} {x = n} {y = 10 ^ suc k} (omega arith)).1 (rw (pow-suc 10 (suc k)) at h.1),
-        λ _. rw e ((le-div_iff_mul-le {k = 10} {x = 10 ^ k} {y = n} (omega arith)).1 (rw (pow-suc 10 k) at low)),
-      )
-
-decimal_from_lem : (f n k : ℕ) → n < f → IsDigitCount 10 1 n k → last_digits 10 k n ≡ decimal_from f n
+-- a bound above the number makes no difference
+bounded : (f g n : ℕ) → n < f → n < g → decimal_from f n ≡ decimal_from g n
 unfolding decimal_from
-decimal_from_lem zero n k small h = absurd (omega arith)
-decimal_from_lem (suc f) n zero small h = absurd (omega (arith, h.0))
-decimal_from_lem (suc f) n (suc zero) small h =
-    let less : n < 10 = omega (arith, h.1) in
-    rw (lt-ltb n 10 less, mod-eq_of_lt less, glyph_digit n less)
-decimal_from_lem (suc f) n (suc (suc k)) small h =
-    let shorter : n / 10 < n = div-lt_self (omega (arith, ten n k h)) (omega arith) in
-    rw (le-ltb n 10 (ten n k h), decimal_from_lem f (n / 10) (suc k) (omega arith) (fewer n k h), glyph_digit (n % 10) (mod-lt n (omega arith)))
-
-pub digits_decimal : (n k : ℕ) → IsDigitCount 10 1 n k → last_digits 10 k n ≡ decimal n
-unfolding decimal
-digits_decimal n k h = decimal_from_lem (suc n) n k (omega arith) h
-
--- 20 digits hold every u64
-pub digits_few : (n k : ℕ) → n < 18446744073709551616 → IsDigitCount 10 1 n k → k ≤ 20
-digits_few n k small h = go (leb k 20) refl
+bounded zero g n h k = absurd (omega arith)
+bounded (suc f) zero n h k = absurd (omega arith)
+bounded (suc f) (suc g) n h k = go (ltb n 10) refl (λ less. bounded f g (n / 10) (omega arith) (omega arith))
   where
-    go : (b : Bool) → leb k 20 ≡ b → k ≤ 20
-    go true e = leb-true k 20 e
-    go false e =
-        let more : 20 < k = leb-false k 20 e in
-        absurd (omega (arith, small, h.2 (omega arith), pow-le-pow_right {n = 10} (omega arith) {i = 20} {j = k - 1} (omega arith)))
+    go : (b : Bool) → ltb n 10 ≡ b → (n / 10 < n → decimal_from f (n / 10) ≡ decimal_from g (n / 10)) → decimal_from (suc f) n ≡ decimal_from (suc g) n
+    go true e rest = rw e
+    go false e rest =
+        let ten : 10 ≤ n = ltb-false n 10 e in
+        rw (e, rest (div-lt_self (omega arith) (omega arith)))
+
+pub decimal_one : (n : ℕ) → n < 10 → digit n ∷ [] ≡ decimal n
+unfolding decimal decimal_from
+decimal_one n h = rw (lt-ltb n 10 h)
+
+pub decimal_more : (n : ℕ) → 10 ≤ n → decimal (n / 10) ++ digit (n % 10) ∷ [] ≡ decimal n
+unfolding decimal decimal_from
+decimal_more n h =
+    let less : n / 10 < n = div-lt_self (omega arith) (omega arith) in
+    rw (le-ltb n 10 h, bounded n (suc (n / 10)) (n / 10) less (omega arith))
+
+-- how many digits there are
+few : (f n k : ℕ) → n < 10 ^ suc k → length (decimal_from f n) ≤ suc k
+unfolding decimal_from
+few zero n k h = omega arith
+few (suc f) n k h = go (ltb n 10) refl k h (λ j. few f (n / 10) j)
+  where
+    go : (b : Bool) → ltb n 10 ≡ b → (k : ℕ) → n < 10 ^ suc k → ((j : ℕ) → n / 10 < 10 ^ suc j → length (decimal_from f (n / 10)) ≤ suc j) → length (decimal_from (suc f) n) ≤ suc k
+    go true e k h rest = rw e (omega arith)
+    go false e zero h rest = absurd (omega (arith, ltb-false n 10 e))
+    go false e (suc k) h rest =
+        let fewer : n / 10 < 10 ^ suc k = (div-lt_iff_lt-mul {k = 10} {x = n} {y = 10 ^ suc k} (omega arith)).1 (rw (pow-suc 10 (suc k)) at h) in
+        rw e (omega (arith, rest k fewer, length-append (decimal_from f (n / 10)) (digit (n % 10) ∷ [])))
+
+-- ten digits hold every u32
+pub decimal_few : (n : ℕ) → n < 4294967296 → length (decimal n) ≤ 10
+unfolding decimal
+decimal_few n h = few (suc n) n 9 (omega arith)

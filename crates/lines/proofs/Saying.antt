@@ -1,22 +1,28 @@
 -- What is stored for an answer, part by part, is its line. Assumes nothing.
 use mathlib.Core.Path.{◌≡◌}
 use mathlib.Core.List.{List, [], ◌∷◌, ◌++◌}
-use Prim.Native.Nat.{ℕ, ◌≤◌}
+use Prim.Native.Nat.{ℕ, ◌/◌, ◌%◌, ◌≤◌, ◌<◌}
 use native.Mathlib.Omega.{arith}
-use lib.ListN.{length, take}
-use Rattle.io.specs.Digits.{last_digits, IsDigitCount}
+use lib.ListN.{length}
 use Rattle.step.specs.declared.Cause.TheVariants.{BadState, Triple, Both}
 use Rattle.step.specs.declared.Verdict.{Verdict}
 use Rattle.step.specs.declared.RunAnswer.{RunAnswer}
 use Rattle.step.specs.declared.RunAnswer.TheVariants.{Violated, Clean, Refused, RefusedAt}
-use Rattle.lines.specs.Text.{decimal, violated_text, clean_text, refused_text, state_text, triple_text, entry_text, open_text, at_text, newline, line}
+use Rattle.lines.specs.Text.{digit, decimal, violated_text, clean_text, refused_text, state_text, triple_text, entry_text, open_text, at_text, newline, line}
 use Rattle.lines.specs.Walk.{Puts, line_of}
 use Rattle.lines.proofs.Texts.{puts_then, puts_most, puts_near}
-use Rattle.lines.proofs.Decimals.{digits_decimal}
+use Rattle.lines.proofs.Decimals.{decimal_one, decimal_more, decimal_few}
 
--- a name, and a number's digits
-pub says_named : {o p q : List ℕ} {at m r : ℕ} (name : List ℕ) (n k : ℕ) (buffer : List ℕ) → length name ≤ 10 → IsDigitCount 10 1 n k → take k buffer ≡ last_digits 10 k n → Puts o p at name m 20 → Puts p q m (take k buffer) r 20 → Puts o q at (name ++ decimal n) r 30
-says_named name n k buffer h f e v w = puts_then name (decimal n) (puts_near v h) (rw (e, digits_decimal n k f) at w)
+-- a name, and a number
+pub says_named : {o p q : List ℕ} {at m r : ℕ} (name : List ℕ) (n : ℕ) → length name ≤ 10 → Puts o p at name m 20 → Puts p q m (decimal n) r 10 → Puts o q at (name ++ decimal n) r 30
+says_named name n h v w = puts_most (puts_then name (decimal n) (puts_near v h) w) (omega arith)
+
+-- a number: one digit, or the last behind the rest
+pub says_digit : {o p : List ℕ} {at r d : ℕ} (n : ℕ) → n < 10 → d ≡ digit n → Puts o p at (d ∷ []) r 20 → Puts o p at (decimal n) r 10
+says_digit n h e w = rw (← decimal_one n h, ← e) (puts_near w (omega arith))
+
+pub says_digits : {o p q : List ℕ} {at m r d : ℕ} (n : ℕ) → 10 ≤ n → n < 4294967296 → d ≡ digit (n % 10) → Puts o p at (decimal (n / 10)) m 10 → Puts p q m (d ∷ []) r 20 → Puts o q at (decimal n) r 10
+says_digits n h k e v w = puts_near (rw (decimal_more n h) at (rw e at (puts_then _ _ v w))) (decimal_few n k)
 
 module _ {o p₁ p₂ : List ℕ} {at m₁ r : ℕ} where
   pub says_refused : (n : ℕ) {v : ℕ} → v ≡ n → Puts o p₁ at (refused_text ++ decimal v) m₁ 30 → Puts p₁ p₂ m₁ newline r 20 → Puts o p₂ at (line_of (Refused n)) r 150

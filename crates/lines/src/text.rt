@@ -2,7 +2,7 @@
 
 ghost use Rattle.std.specs.Prelude.{◌≡◌, ◌++◌, ◌≤◌, ◌<◌, length};
 ghost use Rattle.step.specs.declared.RunAnswer.TheVariants.{Violated, Clean};
-ghost use Rattle.lines.specs.Text.{decimal};
+ghost use Rattle.lines.specs.Text.{decimal, digit};
 ghost use Rattle.lines.specs.Walk.{Puts, line_of};
 
 use step::{Cause, RunAnswer, Verdict};
@@ -69,9 +69,27 @@ fn named(out: &mut [u8], at: usize, name: &[u8], n: u32) -> usize
     ensures { Puts out.old out.new at (name.now ++ decimal n) result 30 }
 {
     let next = text(out, at, name);
-    let mut digits = [0u8; 20];
-    let k = io::decimal(n as u64, &mut digits);
-    text(out, next, &digits[..k])
+    number(out, next, n)
+}
+
+// A number in decimal, without zeros in front.
+fn number(out: &mut [u8], at: usize, n: u32) -> usize
+    requires { at ≤ 2100 }
+    ensures { Puts out.old out.new at (decimal n) result 10 }
+{
+    if n < 10 {
+        return text(out, at, &[digit(n)]);
+    }
+    let next = number(out, at, n / 10);
+    text(out, next, &[digit(n % 10)])
+}
+
+// A digit in ASCII.
+fn digit(d: u32) -> u8
+    requires { d < 10 }
+    ensures { result ≡ digit d }
+{
+    48 + d as u8
 }
 
 pub(crate) fn text(out: &mut [u8], at: usize, t: &[u8]) -> usize

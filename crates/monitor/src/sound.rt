@@ -1,31 +1,21 @@
 // Whether a state is sound on an accepted sheet.
 
-ghost use Rattle.std.specs.Prelude.{◌≡◌, ◌&&◌, ◌≤◌, ◌<◌, eqb, ltb, length, get_or, take, drop};
+ghost use Rattle.std.specs.Prelude.{◌≡◌, ◌&&◌, ◌<◌, eqb, ltb, length, get_or, take, drop};
 ghost use Rattle.condition.specs.Answer.{most_variables};
 ghost use Rattle.sheet.specs.Table.{every};
 ghost use Rattle.sheet.specs.Decode.{sheet_of};
 ghost use Rattle.sheet.specs.Reading.{reading, sheet_layout};
 ghost use Rattle.sheet.specs.Answer.{header_of};
 ghost use Rattle.step.specs.Lists.{beside, rising};
-ghost use Rattle.step.specs.Calls.{most_calls, most_values, most_armed};
+ghost use Rattle.step.specs.Calls.{most_calls, most_values};
 ghost use Rattle.step.specs.Padding.{clear};
 ghost use Rattle.monitor.specs.Sound.{call_sound};
 ghost use Rattle.monitor.specs.Padded.{unpad_armed, is_zero_arms, tidy_arms, sound_state};
-ghost use Rattle.monitor.specs.Walk.{tables_of, states_at, units_at, of_unit, of_state, call_tested};
+ghost use Rattle.monitor.specs.Walk.{tables_of, triple_at};
 
 use crate::{Arms, WatchState};
 use sheet::Header;
 use step::Call;
-
-// So many triples a sheet has at most.
-const TRIPLES: usize = 32;
-
-// The states and units of a sheet's triples, by their numbers, with zeros behind them.
-#[derive(Clone, Copy)]
-pub struct Owners {
-    pub states: [u8; TRIPLES],
-    pub units: [u8; TRIPLES],
-}
 
 // The numbers of an accepted sheet's header, and where its triples begin.
 #[derive(Clone, Copy)]
@@ -124,8 +114,7 @@ fn triples_clear(triples: [u8; WatchState::ARMED], from: usize) -> bool
     true
 }
 
-// Whether each of the first `opened` calls is sound with what is armed for it. Where none is open, no
-// table is made.
+// Whether each of the first `opened` calls is sound with what is armed for it.
 fn calls_sound(
     s: &[u8],
     t: Tables,
@@ -136,15 +125,10 @@ fn calls_sound(
     requires { (reading sheet_layout s.now ≡ 0) × (t ≡ tables_of s.now) }
     ensures { result ≡ every (call_sound (sheet_of s.now)) (beside (unpad_armed t.header.programs) (take opened calls) (take opened arms)) }
 {
-    if opened == 0 {
-        return true;
-    }
-    let h = t.header;
-    let held = owners_of(s, t.triples, h.last);
     let mut i = 0;
     while i < opened {
         if i < WatchState::CALLS {
-            if call_sound(h, held, calls[i], arms[i]) {} else {
+            if call_sound(s, t, calls[i], arms[i]) {} else {
                 return false;
             }
         } else {
@@ -155,45 +139,17 @@ fn calls_sound(
     true
 }
 
-// The place of the next triple is carried along by adding.
-fn owners_of(s: &[u8], at: u16, n: u8) -> Owners
-    requires { n ≤ 32 }
-    ensures { (result.states ≡ states_at n s.now at) × (result.units ≡ units_at n s.now at) }
+fn call_sound(s: &[u8], t: Tables, call: Call, arms: Arms) -> bool
+    requires { (reading sheet_layout s.now ≡ 0) × (t ≡ tables_of s.now) }
+    ensures { result ≡ call_sound (sheet_of s.now) (unpad_armed t.header.programs call arms) }
 {
-    let mut states = [0u8; TRIPLES];
-    let mut units = [0u8; TRIPLES];
-    let count = wide(n);
-    let mut k = 0;
-    let mut place = long(at);
-    while k < count {
-        let t = sheet::triple_at(s, place);
-        states[k] = t.state;
-        units[k] = t.unit;
-        place += 4;
-        k += 1;
-    }
-    Owners { states, units }
-}
-
-// Whether a call is sound with what is armed for it, by whose the triples are.
-fn call_sound(h: Header, held: Owners, call: Call, arms: Arms) -> bool
-    ensures { (result ≡ call_tested h held call arms) × (length call.kept ≡ most_values) × (length arms.triples ≡ most_armed) }
-{
-    let count = armed_in(arms);
+    let h = t.header;
+    let count = wide(arms.count);
     let triples = arms.triples;
-    let states = held.states;
-    let units = held.units;
     unit_below(call, h.units)
         & (rising(triples, count)
-            & (of_unit(&units[..], h.last, triples, count, call.unit)
-                & of_one_state(&states[..], triples, count)))
-}
-
-// How many triples are armed for a call, in a row of four places.
-fn armed_in(arms: Arms) -> usize
-    ensures { (result ≡ arms.count) × (length arms.triples ≡ most_armed) }
-{
-    wide(arms.count)
+            & (of_unit(s, t.triples, h.last, triples, count, call.unit)
+                & of_one_state(s, t.triples, triples, count)))
 }
 
 // Whether a call's unit is below U. A call keeps eight values.
@@ -222,15 +178,22 @@ fn rising(triples: [u8; WatchState::ARMED], count: usize) -> bool
 }
 
 // Whether the first `count` of four numbers are those of triples, of a unit.
-fn of_unit(units: &[u8], n: u8, triples: [u8; WatchState::ARMED], count: usize, unit: u8) -> bool
-    ensures { result ≡ of_unit units.now n unit (take count triples) }
+fn of_unit(
+    s: &[u8],
+    at: u16,
+    n: u8,
+    triples: [u8; WatchState::ARMED],
+    count: usize,
+    unit: u8,
+) -> bool
+    ensures { result ≡ every (λ i. ltb i n && eqb (triple_at s.now at i).unit unit) (take count triples) }
 {
     let mut i = 0;
     while i < count {
         if i < WatchState::ARMED {
             let k = triples[i];
-            let own = sheet::byte_at(units, k as u32);
-            if (k < n) & (own == unit) {} else {
+            let t = sheet::triple_at(s, long(at) + 4 * word(k));
+            if (k < n) & (t.unit == unit) {} else {
                 return false;
             }
         } else {
@@ -243,20 +206,18 @@ fn of_unit(units: &[u8], n: u8, triples: [u8; WatchState::ARMED], count: usize, 
 
 // Whether the triples of the first `count` of four numbers are of one state, that of the first. One
 // is of its own.
-fn of_one_state(states: &[u8], triples: [u8; WatchState::ARMED], count: usize) -> bool
-    ensures { result ≡ of_state states.now (get_or triples 0 0) (take count triples) }
+fn of_one_state(s: &[u8], at: u16, triples: [u8; WatchState::ARMED], count: usize) -> bool
+    ensures { result ≡ every (λ i. eqb (triple_at s.now at i).state (triple_at s.now at (get_or triples 0 0)).state) (take count triples) }
 {
     if count < 2 {
         return true;
     }
-    let lowest = triples[0];
-    let first = sheet::byte_at(states, lowest as u32);
+    let first = sheet::triple_at(s, long(at) + 4 * word(triples[0]));
     let mut i = 0;
     while i < count {
         if i < WatchState::ARMED {
-            let k = triples[i];
-            let own = sheet::byte_at(states, k as u32);
-            if own == first {} else {
+            let t = sheet::triple_at(s, long(at) + 4 * word(triples[i]));
+            if t.state == first.state {} else {
                 return false;
             }
         } else {
@@ -271,6 +232,12 @@ pub(crate) fn wide(x: u8) -> usize
     ensures { (result ≡ x) × (result < 256) }
 {
     x as usize
+}
+
+fn word(x: u8) -> u32
+    ensures { (result ≡ x) × (result < 256) }
+{
+    x as u32
 }
 
 fn long(x: u16) -> u32

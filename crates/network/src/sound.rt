@@ -1,6 +1,6 @@
 // Whether a state is sound on an accepted network.
 
-ghost use Rattle.std.specs.Prelude.{◌≡◌, map, ◌≤◌, ◌<◌, eqb, leb, ltb, length, get_or, take, drop};
+ghost use Rattle.std.specs.Prelude.{◌≡◌, map, ◌<◌, eqb, leb, ltb, length, take, drop};
 ghost use Rattle.condition.specs.Answer.{most_variables};
 ghost use Rattle.sheet.specs.Table.{every};
 ghost use Rattle.sheet.specs.Decode.{network_of};
@@ -10,14 +10,11 @@ ghost use Rattle.step.specs.Lists.{keep, place_of};
 ghost use Rattle.step.specs.Calls.{most_calls, most_armed};
 ghost use Rattle.network.specs.Sound.{never_falls};
 ghost use Rattle.network.specs.Padded.{most_checkers, is_zero_checker, sound_state};
-ghost use Rattle.network.specs.Walk.{tables_of, units_at, on_call_of, carried_in};
+ghost use Rattle.network.specs.Walk.{tables_of, on_call_at, carried_in};
 
 use crate::{Checker, NetworkState};
 use sheet::Header;
 use step::{ARMED, Call};
-
-// So many templates a network has at most.
-const TEMPLATES: usize = 32;
 
 // The numbers of an accepted network's header, and where its templates begin.
 #[derive(Clone, Copy)]
@@ -113,14 +110,12 @@ fn on_calls(
     checkers: [Checker; NetworkState::CHECKERS],
     living: usize,
 ) -> bool
-    requires { n ≤ 32 }
-    ensures { result ≡ every (on_call_of (units_at n s.now at) n (take opened calls)) (take living checkers) }
+    ensures { result ≡ every (on_call_at s.now at n (take opened calls)) (take living checkers) }
 {
-    let units = units_of(s, at, n);
     let mut i = 0;
     while i < living {
         if i < NetworkState::CHECKERS {
-            if on_call(&units[..], n, calls, opened, checkers[i]) {} else {
+            if on_call(s, at, n, calls, opened, checkers[i]) {} else {
                 return false;
             }
         } else {
@@ -131,36 +126,18 @@ fn on_calls(
     true
 }
 
-// The units of a network's templates, by their numbers, with zeros behind them. The place of the next
-// template is carried along by adding.
-fn units_of(s: &[u8], at: u16, n: u8) -> [u8; TEMPLATES]
-    requires { n ≤ 32 }
-    ensures { result ≡ units_at n s.now at }
-{
-    let mut units = [0u8; TEMPLATES];
-    let count = wide(n);
-    let mut k = 0;
-    let mut place = long(at);
-    while k < count {
-        let t = sheet::template_at(s, place);
-        units[k] = t.unit;
-        place += 2;
-        k += 1;
-    }
-    units
-}
-
 fn on_call(
-    units: &[u8],
+    s: &[u8],
+    at: u16,
     n: u8,
     calls: [Call; NetworkState::CALLS],
     opened: usize,
     c: Checker,
 ) -> bool
-    ensures { result ≡ on_call_of units.now n (take opened calls) c }
+    ensures { result ≡ on_call_at s.now at n (take opened calls) c }
 {
-    let unit = sheet::byte_at(units, c.template as u32);
-    let open = step::call_open_for(calls, opened, c.number, unit);
+    let t = sheet::template_at(s, long(at) + 2 * word(c.template));
+    let open = step::call_open_for(calls, opened, c.number, t.unit);
     (c.template < n) & open
 }
 
@@ -263,6 +240,12 @@ pub(crate) fn wide(x: u8) -> usize
     ensures { (result ≡ x) × (result < 256) }
 {
     x as usize
+}
+
+pub(crate) fn word(x: u8) -> u32
+    ensures { (result ≡ x) × (result < 256) }
+{
+    x as u32
 }
 
 pub(crate) fn long(x: u16) -> u32

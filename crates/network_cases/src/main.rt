@@ -1,13 +1,14 @@
 // Carries out a framed script from standard input: lays out networks and states, offers events, runs
 // logs, reads checkers, and prints a line for each answer. reference/CASES.md has the format.
+#![tactic(auto)]
 
 ghost use Rattle.std.specs.Prelude.{◌+◌, ◌≤◌, ◌<◌, length};
 
 use network::{Checker, NetworkState};
 use sheet::{Reading, Record};
+use std::io;
+use std::io::{BufWriter, Read, Write};
 use step::{Answer, Call, Cause, Outcome, RunAnswer, Verdict};
-
-const OUT: i32 = 1;
 
 // What the frames so far have laid out: where the network begins and ends, the state, the saved one.
 #[derive(Drop)]
@@ -25,27 +26,20 @@ struct Bank {
     words: [u32; 256],
 }
 
-fn main() {
-    let mut left: u32 = 64;
-    while 0 < left {
-        if page() {} else {
-            return;
-        }
-        left -= 1;
+// Reads at most 64 pages of frames, and carries out one after the other.
+fn main(rt: HostRuntime) -> io::Result<()> {
+    let mut input = Vec::new(rt.alloc());
+    rt.stdin().take(64 * 65536).read_to_end(&mut input)?;
+    let mut out = BufWriter::new(rt.alloc(), rt.stdout())?;
+    for page in input.chunks(65536) {
+        script(&mut out, page)?;
     }
-}
-
-// Reads a page of frames and carries it out; answers whether there was one.
-fn page() -> bool {
-    let mut input = io::large_buffer();
-    let n = io::read_full(0, &mut input);
-    script(&input[..n]);
-    0 < n
+    out.flush()
 }
 
 // Carries out the frames of a page, from no rules and all-zero states on, to the end or to one that is
 // cut short.
-fn script(s: &[u8])
+fn script<W: Write>(out: &mut W, s: &[u8]) -> io::Result<()>
     requires { length s.now ≤ 65536 }
 {
     let mut at = 0;
@@ -58,11 +52,12 @@ fn script(s: &[u8])
     while at < s.len() {
         let next = at + size(s, at);
         if s.len() < next {
-            return;
+            return Ok(());
         }
-        bench = carry_out(s, at, next, bench);
+        bench = carry_out(out, s, at, next, bench)?;
         at = next;
     }
+    Ok(())
 }
 
 // How many bytes the frame at a place has; more than there are where its code is wrong.
@@ -81,19 +76,25 @@ fn size(s: &[u8], at: usize) -> usize
 }
 
 // Carries out the frame between two places.
-fn carry_out(s: &[u8], at: usize, next: usize, bench: Bench) -> Bench
+fn carry_out<W: Write>(
+    out: &mut W,
+    s: &[u8],
+    at: usize,
+    next: usize,
+    bench: Bench,
+) -> io::Result<Bench>
     requires { at ≤ 65536 }
 {
     match byte(s, at) {
-        0 => with_network(bench, at + 3, next),
-        1 => fresh(s, bench),
-        2 => set(s, at, bench),
-        3 => save(bench),
-        4 => restore(bench),
-        5 => offer(s, at, bench, false),
-        6 => offer(s, at, bench, true),
-        7 => run(s, at + 3, next, bench),
-        _ => entry_values(byte(s, at + 1), bench),
+        0 => Ok(with_network(bench, at + 3, next)),
+        1 => fresh(out, s, bench),
+        2 => Ok(set(s, at, bench)),
+        3 => Ok(save(bench)),
+        4 => Ok(restore(bench)),
+        5 => offer(out, s, at, bench, false),
+        6 => offer(out, s, at, bench, true),
+        7 => run(out, s, at + 3, next, bench),
+        _ => entry_values(out, byte(s, at + 1), bench),
     }
 }
 
@@ -122,20 +123,19 @@ fn restore(bench: Bench) -> Bench {
 }
 
 // Makes the network's fresh state the state.
-fn fresh(s: &[u8], bench: Bench) -> Bench {
+fn fresh<W: Write>(out: &mut W, s: &[u8], bench: Bench) -> io::Result<Bench> {
     let made = NetworkState::fresh(part(s, bench.start, bench.end));
-    let reading = made.reading;
-    let state = made.state;
-    match reading {
-        Reading::Accepted => print(b"accepted"),
-        Reading::Refused(n) => print_refused(n),
+    match made.reading {
+        Reading::Accepted => write!(out, "accepted")?,
+        Reading::Refused(n) => print_refused(out, n)?,
     }
-    print_state(state);
-    Bench { state, ..bench }
+    let state = made.state;
+    print_state(out, &state)?;
+    Ok(Bench { state, ..bench })
 }
 
 // Offers the event of a frame; the state that comes back is taken over where it is to be kept.
-fn offer(s: &[u8], at: usize, bench: Bench, keep: bool) -> Bench
+fn offer<W: Write>(out: &mut W, s: &[u8], at: usize, bench: Bench, keep: bool) -> io::Result<Bench>
     requires { at ≤ 65536 }
 {
     let event = Record {
@@ -144,63 +144,60 @@ fn offer(s: &[u8], at: usize, bench: Bench, keep: bool) -> Bench
         number: short(s, at + 3) as u16,
     };
     let bank = read_bank(s, at + 5);
-    let words = bank.words;
-    let before = bench.state;
     let offered = network::offer(
         part(s, bench.start, bench.end),
-        before,
+        bench.state,
         event,
-        condition::front(&words, bank.count),
+        condition::front(&bank.words, bank.count),
     );
-    let answer = offered.answer;
     let state = offered.state;
-    print_answer(answer);
-    print_decimal(b" count ", offered.count as u64);
-    print_state(state);
+    print_answer(out, offered.answer)?;
+    write!(out, " count {}", offered.count)?;
+    print_state(out, &state)?;
     if keep {
-        Bench { state, ..bench }
+        Ok(Bench { state, ..bench })
     } else {
-        bench
+        Ok(bench)
     }
 }
 
-fn print_answer(a: Answer) {
+fn print_answer<W: Write>(out: &mut W, a: Answer) -> io::Result<()> {
     match a {
-        Answer::Taken => print(b"taken"),
-        Answer::Refused(n) => print_refused(n),
+        Answer::Taken => write!(out, "taken"),
+        Answer::Refused(n) => print_refused(out, n),
     }
 }
 
 // Runs the log between two places.
-fn run(s: &[u8], start: usize, end: usize, bench: Bench) -> Bench {
+fn run<W: Write>(
+    out: &mut W,
+    s: &[u8],
+    start: usize,
+    end: usize,
+    bench: Bench,
+) -> io::Result<Bench> {
     let ran = network::run(part(s, bench.start, bench.end), part(s, start, end));
-    let answer = ran.answer;
-    match answer {
-        RunAnswer::Violated(v) => print_found(v),
+    match ran.answer {
+        RunAnswer::Violated(v) => print_found(out, v)?,
         RunAnswer::Clean(events, state, opened) => {
-            print_decimal(b"clean ", events as u64);
-            print_decimal(b" state ", state as u64);
-            print_decimal(b" open ", opened as u64);
+            write!(out, "clean {events} state {state} open {opened}")?;
         }
-        RunAnswer::Refused(n) => print_refused(n),
+        RunAnswer::Refused(n) => print_refused(out, n)?,
         RunAnswer::RefusedAt(n, record) => {
-            print_refused(n);
-            print_decimal(b" at ", record as u64);
+            print_refused(out, n)?;
+            write!(out, " at {record}")?;
         }
     }
-    print_decimal(b" count ", ran.count);
-    print(b"\n");
-    bench
+    writeln!(out, " count {}", ran.count)?;
+    Ok(bench)
 }
 
 // Prints the values at entry of the checker at a place.
-fn entry_values(i: usize, bench: Bench) -> Bench {
-    let state = bench.state;
-    print_decimal(b"entry ", i as u64);
-    let kept = network::entry_values(state, i);
-    print_kept(i as u64, kept);
-    print(b"\n");
-    bench
+fn entry_values<W: Write>(out: &mut W, i: usize, bench: Bench) -> io::Result<Bench> {
+    write!(out, "entry {i}")?;
+    print_kept(out, i, &network::entry_values(bench.state, i))?;
+    writeln!(out)?;
+    Ok(bench)
 }
 
 // ---- Setting a field
@@ -322,154 +319,125 @@ fn changed_checker(checker: Checker, field: usize, value: u32) -> Checker {
 // ---- Printing
 
 // A state whole, and the end of the line: each field that is not zero, then the verdict.
-fn print_state(state: NetworkState) {
-    let variables = state.variables;
-    let calls = state.calls;
-    let checkers = state.checkers;
-    let outcome = state.outcome;
-    print_field(b" m=", state.main as u64);
-    print_variables(variables);
-    print_field(b" o=", state.opened as u64);
-    print_calls(calls);
-    print_field(b" l=", state.living as u64);
-    print_checkers(checkers);
-    print_field(b" p=", state.position as u64);
-    print_outcome(outcome);
-    print(b"\n");
+fn print_state<W: Write>(out: &mut W, state: &NetworkState) -> io::Result<()> {
+    print_field(out, " m=", u32::from(state.main))?;
+    print_variables(out, &state.variables)?;
+    print_field(out, " o=", u32::from(state.opened))?;
+    print_calls(out, &state.calls)?;
+    print_field(out, " l=", u32::from(state.living))?;
+    print_checkers(out, &state.checkers)?;
+    print_field(out, " p=", state.position)?;
+    print_outcome(out, state.outcome)?;
+    writeln!(out)
 }
 
-fn print_variables(variables: [u32; 4]) {
-    print_signed(b" x0=", variables[0]);
-    print_signed(b" x1=", variables[1]);
-    print_signed(b" x2=", variables[2]);
-    print_signed(b" x3=", variables[3]);
+fn print_variables<W: Write>(out: &mut W, variables: &[u32; 4]) -> io::Result<()> {
+    for (i, w) in variables.iter().enumerate() {
+        if *w != 0 {
+            write!(out, " x{i}=")?;
+            print_signed(out, *w)?;
+        }
+    }
+    Ok(())
 }
 
 // The sixteen places.
-fn print_calls(calls: [Call; 16]) {
-    let mut i: usize = 0;
-    while i < 16 {
-        print_call(i as u64, calls[i]);
-        i += 1;
+fn print_calls<W: Write>(out: &mut W, calls: &[Call; 16]) -> io::Result<()> {
+    for i in 0..16 {
+        print_call(out, i, &calls[i])?;
     }
+    Ok(())
 }
 
 // The sixty-four places, each with its call's number and its template.
-fn print_checkers(checkers: [Checker; 64]) {
-    let mut i: usize = 0;
-    while i < 64 {
-        print_checker(i as u64, checkers[i]);
-        i += 1;
+fn print_checkers<W: Write>(out: &mut W, checkers: &[Checker; 64]) -> io::Result<()> {
+    for i in 0..64 {
+        print_checker(out, i, &checkers[i])?;
     }
+    Ok(())
 }
 
-fn print_checker(i: u64, checker: Checker) {
-    print_at(b" c", i, checker.number as u64);
-    print_at(b" t", i, checker.template as u64);
-    print_at(b" f", i, checker.entry as u64);
+fn print_checker<W: Write>(out: &mut W, i: usize, checker: &Checker) -> io::Result<()> {
+    print_at(out, " c", i, u32::from(checker.number))?;
+    print_at(out, " t", i, u32::from(checker.template))?;
+    print_at(out, " f", i, checker.entry)
 }
 
-fn print_call(i: u64, call: Call) {
-    let kept = call.kept;
-    print_at(b" n", i, call.number as u64);
-    print_at(b" u", i, call.unit as u64);
-    print_at(b" e", i, call.entry as u64);
-    print_kept(i, kept);
+fn print_call<W: Write>(out: &mut W, i: usize, call: &Call) -> io::Result<()> {
+    print_at(out, " n", i, u32::from(call.number))?;
+    print_at(out, " u", i, u32::from(call.unit))?;
+    print_at(out, " e", i, call.entry)?;
+    print_kept(out, i, &call.kept)
 }
 
-fn print_kept(i: u64, kept: [u32; 8]) {
-    print_value(i, b".0=", kept[0]);
-    print_value(i, b".1=", kept[1]);
-    print_value(i, b".2=", kept[2]);
-    print_value(i, b".3=", kept[3]);
-    print_value(i, b".4=", kept[4]);
-    print_value(i, b".5=", kept[5]);
-    print_value(i, b".6=", kept[6]);
-    print_value(i, b".7=", kept[7]);
-}
-
-fn print_value(i: u64, place: &[u8], w: u32) {
-    if w != 0 {
-        print_decimal(b" k", i);
-        print_signed(place, w);
+fn print_kept<W: Write>(out: &mut W, i: usize, kept: &[u32; 8]) -> io::Result<()> {
+    for (j, w) in kept.iter().enumerate() {
+        if *w != 0 {
+            write!(out, " k{i}.{j}=")?;
+            print_signed(out, *w)?;
+        }
     }
+    Ok(())
 }
 
-fn print_outcome(outcome: Outcome) {
+fn print_outcome<W: Write>(out: &mut W, outcome: Outcome) -> io::Result<()> {
     match outcome {
-        Outcome::Open => {}
+        Outcome::Open => Ok(()),
         Outcome::Judged(v) => {
-            print(b" ");
-            print_verdict(v);
-            print_decimal(b" entry ", v.entry as u64);
+            write!(out, " ")?;
+            print_verdict(out, v)?;
+            write!(out, " entry {}", v.entry)
         }
     }
 }
 
 // A verdict that a log comes to, as the program prints it.
-fn print_found(v: Verdict) {
-    print_verdict(v);
-    let cause = v.cause;
-    match cause {
-        Cause::BadState(_) => print(b" entry -"),
-        Cause::Triple(_) => print_decimal(b" entry ", v.entry as u64),
-        Cause::Both(_, _) => print_decimal(b" entry ", v.entry as u64),
+fn print_found<W: Write>(out: &mut W, v: Verdict) -> io::Result<()> {
+    print_verdict(out, v)?;
+    match v.cause {
+        Cause::BadState(_) => write!(out, " entry -"),
+        Cause::Triple(_) | Cause::Both(_, _) => write!(out, " entry {}", v.entry),
     }
 }
 
 // A verdict up to its triple.
-fn print_verdict(v: Verdict) {
-    let cause = v.cause;
-    print_decimal(b"violated ", v.position as u64);
-    match cause {
-        Cause::BadState(state) => {
-            print_decimal(b" state ", state as u64);
-            print(b" triple -");
-        }
-        Cause::Triple(triple) => print_decimal(b" state - triple ", triple as u64),
-        Cause::Both(state, triple) => {
-            print_decimal(b" state ", state as u64);
-            print_decimal(b" triple ", triple as u64);
-        }
+fn print_verdict<W: Write>(out: &mut W, v: Verdict) -> io::Result<()> {
+    write!(out, "violated {}", v.position)?;
+    match v.cause {
+        Cause::BadState(state) => write!(out, " state {state} triple -"),
+        Cause::Triple(triple) => write!(out, " state - triple {triple}"),
+        Cause::Both(state, triple) => write!(out, " state {state} triple {triple}"),
     }
 }
 
-fn print_refused(n: u8) {
-    print_decimal(b"refused ", n as u64);
+fn print_refused<W: Write>(out: &mut W, n: u8) -> io::Result<()> {
+    write!(out, "refused {n}")
 }
 
 // A number with a name before it, unless it is zero.
-fn print_field(name: &[u8], n: u64) {
+fn print_field<W: Write>(out: &mut W, name: &str, n: u32) -> io::Result<()> {
     if n != 0 {
-        print_decimal(name, n);
+        write!(out, "{name}{n}")?;
     }
+    Ok(())
 }
 
 // The same at a place.
-fn print_at(name: &[u8], i: u64, n: u64) {
+fn print_at<W: Write>(out: &mut W, name: &str, i: usize, n: u32) -> io::Result<()> {
     if n != 0 {
-        print_decimal(name, i);
-        print_decimal(b"=", n);
+        write!(out, "{name}{i}={n}")?;
     }
+    Ok(())
 }
 
-// A signed word with a name before it, unless it is zero.
-fn print_signed(name: &[u8], w: u32) {
+// A signed word.
+fn print_signed<W: Write>(out: &mut W, w: u32) -> io::Result<()> {
     if w < 2147483648 {
-        print_field(name, w as u64);
+        write!(out, "{w}")
     } else {
-        print(name);
-        print_decimal(b"-", 4294967296 - (w as u64));
+        let below = 4294967296 - u64::from(w);
+        write!(out, "-{below}")
     }
-}
-
-fn print_decimal(name: &[u8], n: u64) {
-    io::write_all(OUT, name);
-    io::print_decimal(OUT, n);
-}
-
-fn print(text: &[u8]) {
-    io::write_all(OUT, text);
 }
 
 // ---- Reading
@@ -480,10 +448,8 @@ fn read_bank(s: &[u8], at: usize) -> Bank
 {
     let count = byte(s, at);
     let mut words = [0u32; 256];
-    let mut i = 0;
-    while i < count {
+    for i in 0..count {
         words[i] = word(s, at + 1 + 4 * i);
-        i += 1;
     }
     Bank { count, words }
 }

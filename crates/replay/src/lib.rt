@@ -96,13 +96,11 @@ fn offer_all(network: &[u8], log: &[u8], programs: u8, answers: &mut [u8]) -> Re
     }
 }
 
-// How many bytes a record has, by adding.
+// How many bytes a record has.
 fn record_size(programs: u8) -> u32
     ensures { result ≡ record_size programs }
 {
-    let one = programs as u32;
-    let two = one + one;
-    4 + (two + two)
+    4 + 4 * (programs as u32)
 }
 
 // Offers the record at a place of a log, with its values.

@@ -1,5 +1,5 @@
 -- What the private functions that walk over the tables promise.
-use Rattle.std.specs.Prelude.{Bool, false, not, ◌&&◌, ◌≡◌, List, map, ℕ, ◌+◌, ◌*◌, ◌≤◌, ltb, eqb, length, get_or, drop}
+use Rattle.std.specs.Prelude.{Bool, false, not, ◌&&◌, ◌≡◌, List, ℕ, ◌+◌, ◌*◌, ◌≤◌, ltb, get_or, drop}
 use Rattle.condition.specs.declared.Lent.{Lent}
 use Rattle.condition.specs.Tree.{condition_names, is_monitor, is_at_entry, Variable}
 use Rattle.condition.specs.Answer.{condition_which}
@@ -11,11 +11,10 @@ use Rattle.sheet.specs.Parts.{Paired}
 use Rattle.sheet.specs.declared.walk.Walk.{Walk}
 use Rattle.sheet.specs.declared.walk.Texts.{Texts}
 use Rattle.sheet.specs.declared.walk.Tables.{Tables}
-use Rattle.sheet.specs.declared.ranged.Templates.{Templates}
-use Rattle.sheet.specs.Table.{Form, table, after, every, fit}
+use Rattle.sheet.specs.Table.{Form, table, after, every}
 use Rattle.sheet.specs.Decode.{wide, text_form, length_form, conditions_in, actions_in, transitions_in, last_in, conditions_at, actions_at, transitions_at, last_at}
 use Rattle.sheet.specs.declared.Counts.{Counts}
-use Rattle.sheet.specs.Reading.{Layout, between, most_bytes, transition_ranged, template_ranged}
+use Rattle.sheet.specs.Reading.{Layout, between, most_bytes, transition_ranged, pair_ranged}
 
 -- whether every length byte of a table is in range, and where the table ends
 abbrev pub walked : {A : Type 0} → Form A → Form ℕ → ℕ → ℕ → ℕ → List ℕ → ℕ → Walk
@@ -80,15 +79,6 @@ template_suits s index n L t = not (names_at is_monitor s index n L t.postcondit
 abbrev pub within : Triple → Bool
 within t = ltb t.state 16 && ltb t.unit 16
 
--- the units of templates; 6 of the templates, with their units; and of a pair and of a transition with pairs, by the units
-abbrev pub units_of : List Template → List ℕ
-units_of rs = map (λ (t : Template). t.unit) rs
-
-abbrev pub templates_ranged : Counts → List Template → Templates
-templates_ranged n rs = record { ok = every (template_ranged n) rs; units = fit 32 0 (units_of rs) }
-
-unfoldable pub pair_fits : Counts → List ℕ → Transition → Pair → Bool
-pair_fits n us t p = eqb t.kind 0 && (ltb p.condition n.conditions && (ltb p.template (length us) && eqb (get_or us p.template 0) t.unit))
-
-abbrev pub paired_fits : Counts → List ℕ → Paired → Bool
-paired_fits n us t = transition_ranged n t.base && every (pair_fits n us t.base) t.pairs
+-- 6 of a transition with pairs
+abbrev pub paired_ranged : Counts → List Template → Paired → Bool
+paired_ranged n rs t = transition_ranged n t.base && every (pair_ranged n rs t.base) t.pairs

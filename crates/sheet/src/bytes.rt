@@ -1,6 +1,6 @@
 // Numbers in bytes, big-endian. A byte past the end reads as 0.
 
-ghost use Rattle.std.specs.Prelude.{◌≡◌, ◌+◌, ◌*◌, ◌/◌, ◌^◌, ◌≤◌, ◌<◌, drop};
+ghost use Rattle.std.specs.Prelude.{◌≡◌, ◌/◌, ◌^◌, ◌≤◌, ◌<◌, drop};
 ghost use Rattle.sheet.specs.Bytes.{byte, half, word};
 ghost use Rattle.sheet.specs.Decode.{wide, lead, said, text_form};
 
@@ -26,21 +26,6 @@ pub(crate) fn number(s: &[u8], at: usize) -> usize
     ensures { (result ≡ byte s.now at) × (result < 256) }
 {
     wide(byte(s, at))
-}
-
-// Sizes and places are found by adding, for a processor with no wide multiply.
-pub(crate) fn twice(n: usize) -> usize
-    requires { n ≤ 1000000 }
-    ensures { result ≡ 2 * n }
-{
-    n + n
-}
-
-pub(crate) fn four_times(n: usize) -> usize
-    requires { n ≤ 100000 }
-    ensures { result ≡ 4 * n }
-{
-    twice(twice(n))
 }
 
 // Two bytes.
@@ -79,14 +64,6 @@ pub(crate) fn text_size(s: &[u8], at: usize, w: bool) -> usize
     ensures { (result ≡ (text_form w).size (drop at s.now)) × (result ≤ 65537) }
 {
     lead(w) + said(s, at, w)
-}
-
-// How many bytes a transition with so many pairs takes.
-pub(crate) fn paired_size(pairs: usize) -> usize
-    requires { pairs ≤ 255 }
-    ensures { (result ≡ 7 + 2 * pairs) × (result ≤ 517) }
-{
-    7 + twice(pairs)
 }
 
 // Four bytes.

@@ -6,7 +6,7 @@ ghost use Rattle.sheet.specs.Decode.{word_form};
 ghost use Rattle.sheet.specs.Log.{log_reading, records_in};
 ghost use Rattle.sheet.specs.Answer.{log_paper, read_of, record_of};
 
-use crate::bytes::{byte, four_times, half, number, place};
+use crate::bytes::{byte, half, number, place};
 use crate::{LogReading, Record, bytes};
 
 pub(crate) fn read(s: &[u8], programs: usize) -> LogReading
@@ -22,7 +22,7 @@ pub(crate) fn read(s: &[u8], programs: usize) -> LogReading
     if lent == programs {} else {
         return LogReading::Refused(17);
     }
-    let size = 4 + four_times(programs);
+    let size = 4 + 4 * programs;
     let rest = s.len() - 6;
     if rest % size == 0 {
         LogReading::Records(rest / size)

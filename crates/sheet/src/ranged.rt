@@ -1,13 +1,12 @@
 // Refusal 6: numbers in range.
 
-ghost use Rattle.std.specs.Prelude.{◌≡◌, ◌+◌, ◌≤◌, drop};
-ghost use Rattle.sheet.specs.Bytes.{byte};
+ghost use Rattle.std.specs.Prelude.{◌≡◌, ◌≤◌, drop};
 ghost use Rattle.sheet.specs.Table.{table, every};
 ghost use Rattle.sheet.specs.Decode.{transition_form, triple_form, pair_form, paired_form, template_form};
-ghost use Rattle.sheet.specs.Reading.{transition_ranged, triple_ranged, template_ranged};
-ghost use Rattle.sheet.specs.Walk.{templates_ranged, pair_fits, paired_fits};
+ghost use Rattle.sheet.specs.Reading.{transition_ranged, triple_ranged, pair_ranged, template_ranged};
+ghost use Rattle.sheet.specs.Walk.{paired_ranged};
 
-use crate::bytes::{byte, number, paired_size, wide};
+use crate::bytes::{byte, number, wide};
 use crate::records::{pair, template, transition, triple};
 use crate::{Counts, Pair, Template, Transition, Triple};
 
@@ -34,13 +33,14 @@ fn template_ranged(t: Template, n: Counts) -> bool
     (t.unit < n.units) & (t.postcondition < n.conditions)
 }
 
-// A pair of a transition, by the units of the templates.
-fn pair_ranged(p: Pair, t: Transition, n: Counts, units: &[u8]) -> bool
-    ensures { result ≡ pair_fits n units.now t p }
+// A pair of a transition: the templates begin at `last`, so many of them.
+fn pair_ranged(s: &[u8], p: Pair, t: Transition, n: Counts, last: usize, templates: usize) -> bool
+    requires { last ≤ 100000000 }
+    ensures { result ≡ pair_ranged n (table template_form templates s.now last) t p }
 {
     let k = wide(p.template);
-    let unit = byte(units, k);
-    (t.kind == 0) & ((p.condition < n.conditions) & ((k < units.len()) & (unit == t.unit)))
+    let unit = byte(s, last + k * 2);
+    (t.kind == 0) & ((p.condition < n.conditions) & ((k < templates) & (unit == t.unit)))
 }
 
 // Whether n transitions have their numbers in range.
@@ -75,31 +75,20 @@ pub(crate) fn triples_ranged(s: &[u8], at: usize, n: usize, counts: Counts) -> b
     ok
 }
 
-// Whether templates have their numbers in range, and the unit of each. A pair names its template by number, and is
-// judged by that unit: no place is found from a number.
-#[derive(Clone, Copy)]
-pub(crate) struct Templates {
-    pub ok: bool,
-    pub units: [u8; 32],
-}
-
 // The same of templates.
-pub(crate) fn templates_ranged(s: &[u8], at: usize, n: usize, counts: Counts) -> Templates
-    requires { (at ≤ 100000000) × (n ≤ 32) }
-    ensures { result ≡ templates_ranged counts (table template_form n s.now at) }
+pub(crate) fn templates_ranged(s: &[u8], at: usize, n: usize, counts: Counts) -> bool
+    requires { (at ≤ 100000000) × (n ≤ 255) }
+    ensures { result ≡ every (template_ranged counts) (table template_form n s.now at) }
 {
     let mut ok = true;
-    let mut units = [0u8; 32];
-    let mut here = at;
-    let mut i = 0;
-    while i < n {
-        let t = template(s, here);
-        ok = ok & template_ranged(t, counts);
-        units[i] = t.unit;
-        here = here + 2;
-        i += 1;
+    let mut place = at;
+    let mut left = n;
+    while 0 < left {
+        ok = ok & template_ranged(template(s, place), counts);
+        place = place + 2;
+        left -= 1;
     }
-    Templates { ok, units }
+    ok
 }
 
 // The same of the pairs of a transition.
@@ -109,43 +98,50 @@ pub(crate) fn pairs_ranged(
     n: usize,
     t: Transition,
     counts: Counts,
-    units: &[u8],
+    last: usize,
+    templates: usize,
 ) -> bool
-    requires { (at ≤ 200000000) × (n ≤ 255) }
-    ensures { result ≡ every (pair_fits counts units.now t) (table pair_form n s.now at) }
+    requires { (at ≤ 200000000) × (n ≤ 255) × (last ≤ 100000000) }
+    ensures { result ≡ every (pair_ranged counts (table template_form templates s.now last) t) (table pair_form n s.now at) }
 {
     let mut ok = true;
     let mut place = at;
     let mut left = n;
     while 0 < left {
-        ok = ok & pair_ranged(pair(s, place), t, counts, units);
+        ok = ok & pair_ranged(s, pair(s, place), t, counts, last, templates);
         place = place + 2;
         left -= 1;
     }
     ok
 }
 
-// The same of one transition with so many pairs.
-fn one_paired_ranged(s: &[u8], at: usize, pairs: usize, counts: Counts, units: &[u8]) -> bool
-    requires { (at ≤ 150000000) × (pairs ≡ byte s.now (at + 6)) × (pairs ≤ 255) }
-    ensures { result ≡ paired_fits counts units.now (paired_form.value (drop at s.now)) }
+fn one_paired_ranged(s: &[u8], at: usize, counts: Counts, last: usize, templates: usize) -> bool
+    requires { (at ≤ 150000000) × (last ≤ 100000000) }
+    ensures { result ≡ paired_ranged counts (table template_form templates s.now last) (paired_form.value (drop at s.now)) }
 {
     let t = transition(s, at);
-    transition_ranged(t, counts) & pairs_ranged(s, at + 7, pairs, t, counts, units)
+    let pairs = number(s, at + 6);
+    transition_ranged(t, counts) & pairs_ranged(s, at + 7, pairs, t, counts, last, templates)
 }
 
 // The same of transitions with pairs.
-pub(crate) fn paired_ranged(s: &[u8], at: usize, n: usize, counts: Counts, units: &[u8]) -> bool
-    requires { (at ≤ 100000000) × (n ≤ 255) }
-    ensures { result ≡ every (paired_fits counts units.now) (table paired_form n s.now at) }
+pub(crate) fn paired_ranged(
+    s: &[u8],
+    at: usize,
+    n: usize,
+    counts: Counts,
+    last: usize,
+    templates: usize,
+) -> bool
+    requires { (at ≤ 100000000) × (n ≤ 255) × (last ≤ 100000000) }
+    ensures { result ≡ every (paired_ranged counts (table template_form templates s.now last)) (table paired_form n s.now at) }
 {
     let mut ok = true;
     let mut place = at;
     let mut left = n;
     while 0 < left {
-        let pairs = number(s, place + 6);
-        ok = ok & one_paired_ranged(s, place, pairs, counts, units);
-        place = place + paired_size(pairs);
+        ok = ok & one_paired_ranged(s, place, counts, last, templates);
+        place = place + (7 + 2 * number(s, place + 6));
         left -= 1;
     }
     ok

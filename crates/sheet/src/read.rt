@@ -54,14 +54,13 @@ fn sheet_ranged(s: &[u8], t: Tables) -> bool
 }
 
 fn network_ranged(s: &[u8], t: Tables) -> bool
-    requires { (Finds network_layout s.now t) × (byte s.now 13 ≤ 32) }
+    requires { Finds network_layout s.now t }
     ensures { result ≡ ranged network_layout (common_of s.now) (transitions_of network_layout s.now) (last_of network_layout s.now) }
 {
     let c = counts(s);
     let templates = number(s, 13);
-    let last = ranged::templates_ranged(s, t.last, templates, c);
-    let units = last.units;
-    last.ok & ranged::paired_ranged(s, t.transitions, number(s, 12), c, &units[..templates])
+    ranged::paired_ranged(s, t.transitions, number(s, 12), c, t.last, templates)
+        & ranged::templates_ranged(s, t.last, templates, c)
 }
 
 fn sheet_roled(s: &[u8], t: Tables) -> bool

@@ -6,7 +6,7 @@ ghost use Rattle.sheet.specs.Table.{table, every};
 ghost use Rattle.sheet.specs.Decode.{transition_form, triple_form, pair_form, paired_form, template_form};
 ghost use Rattle.sheet.specs.Walk.{names_at, guard_suits, triple_suits, pair_suits, paired_suits, template_suits};
 
-use crate::bytes::{number, paired_size, place, wide};
+use crate::bytes::{number, place, wide};
 use crate::records::{condition_text, pair, template, transition, triple};
 use crate::{Pair, Template, Transition, Triple};
 use condition::Lent;
@@ -183,7 +183,7 @@ pub(crate) fn paired_suit(
     let mut left = n;
     while 0 < left {
         ok = ok & one_paired_suits(s, here, index, conditions, lent);
-        here = here + paired_size(number(s, here + 6));
+        here = here + (7 + 2 * number(s, here + 6));
         left -= 1;
     }
     ok

@@ -6,7 +6,7 @@ ghost use Rattle.sheet.specs.Decode.{triple_form};
 ghost use Rattle.sheet.specs.Reading.{together};
 ghost use Rattle.sheet.specs.Walk.{within};
 
-use crate::bytes::{four_times, wide};
+use crate::bytes::wide;
 use crate::records::triple;
 
 // Whether none of n triples stands with more than three others: they are counted, by state and unit.
@@ -19,7 +19,7 @@ pub(crate) fn spread(s: &[u8], at: usize, n: usize) -> bool
     let mut left = n;
     while 0 < left {
         let t = triple(s, place);
-        let cell = four_times(four_times(wide(t.state))) + wide(t.unit);
+        let cell = 16 * wide(t.state) + wide(t.unit);
         let count = counts[cell];
         if count < 4 {} else {
             return false;

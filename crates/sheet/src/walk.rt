@@ -5,7 +5,7 @@ ghost use Rattle.sheet.specs.Decode.{text_form, length_form, paired_form, pair_c
 ghost use Rattle.sheet.specs.Reading.{most_bytes, sheet_layout, network_layout};
 ghost use Rattle.sheet.specs.Walk.{Walks, FindsTexts, Finds};
 
-use crate::bytes::{four_times, has_wide, lead, number, paired_size, said, twice};
+use crate::bytes::{has_wide, lead, number, said};
 use crate::head::between;
 
 // Whether the length bytes of a table are in range, and where it ends.
@@ -60,7 +60,7 @@ fn walk_paired(s: &[u8], at: usize, n: usize) -> Walk
     while 0 < left {
         let pairs = number(s, place + 6);
         ok = ok & between(0, 4, pairs);
-        place = place + paired_size(pairs);
+        place = place + (7 + 2 * pairs);
         left -= 1;
     }
     Walk { ok, end: place }
@@ -79,7 +79,7 @@ struct Texts {
 fn find_texts(s: &[u8]) -> Texts
     ensures { FindsTexts s.now result }
 {
-    let conditions = 14 + four_times(number(s, 6));
+    let conditions = 14 + number(s, 6) * 4;
     let first = walk_texts(s, conditions, number(s, 10), 1, has_wide(s));
     let second = walk_texts(s, first.end, number(s, 11), 0, false);
     Texts {
@@ -95,14 +95,13 @@ pub(crate) fn sheet_tables(s: &[u8]) -> Tables
     ensures { Finds sheet_layout s.now result }
 {
     let t = find_texts(s);
-    let n = number(s, 12);
-    let last = t.transitions + (twice(n) + four_times(n));
+    let last = t.transitions + number(s, 12) * 6;
     Tables {
         conditions: t.conditions,
         actions: t.actions,
         transitions: t.transitions,
         last,
-        end: last + four_times(number(s, 13)),
+        end: last + number(s, 13) * 4,
         ok: t.first & t.second,
     }
 }
@@ -118,7 +117,7 @@ pub(crate) fn network_tables(s: &[u8]) -> Tables
         actions: t.actions,
         transitions: t.transitions,
         last,
-        end: last + twice(number(s, 13)),
+        end: last + number(s, 13) * 2,
         ok: t.first & (t.second & paired.ok),
     }
 }

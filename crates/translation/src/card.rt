@@ -11,9 +11,7 @@ ghost use Rattle.translation.specs.Answer.{translated_paper, translated_with, bu
 ghost use Rattle.translation.specs.Walk.{Room, Writes};
 ghost use Rattle.translation.specs.CardWalk.{Narrow, PreparedNetwork, earlier_in, WritesWide, separated_bytes, joined_short, separate_refusal};
 
-use crate::write::{
-    Both, base, copy, far, header, near, past_words, put_half, put_two, texts, twice, wide, words,
-};
+use crate::write::{Both, base, copy, far, header, near, put_half, put_two, texts, wide, words};
 use crate::{Translated, write};
 use sheet::{Header, Transition};
 
@@ -29,7 +27,7 @@ fn size_at(n: &[u8], place: u32) -> u32
     requires { place ≤ 100000 }
     ensures { (result ≡ paired_form.size (drop place n.now)) × (result < 600) }
 {
-    7 + twice(sheet::byte_at(n, place + 6))
+    7 + 2 * wide(sheet::byte_at(n, place + 6))
 }
 
 // A condition by its number.
@@ -189,11 +187,11 @@ fn tables(
     ensures { Writes out.old out.new at (table_bytes true (separated (network_of n.now))) result }
 {
     let first = words(n, 14, h.monitors, out, at);
-    let old = wide_texts(n, past_words(h.monitors), h.conditions, out, first);
+    let old = wide_texts(n, 14 + 4 * wide(h.monitors), h.conditions, out, first);
     let second = joined_texts(n, index, from, h.transitions, out, old.at);
     let actions = texts(n, old.from, h.actions, out, second);
     let third = guarded_all(n, from, h.transitions, h.conditions, out, actions.at);
-    copy(n, far(last), far(twice(h.last)), out, third)
+    copy(n, far(last), 2 * near(h.last), out, third)
 }
 
 // How long the network is: it is written where there is no room.

@@ -1,6 +1,6 @@
 // Writing a network. Each writer stores where there is room and answers the next place.
 
-ghost use Rattle.std.specs.Prelude.{false, ◌≡◌, [], ◌∷◌, ◌++◌, map, ◌+◌, ◌*◌, ◌≤◌, ◌<◌, length, set, take, drop};
+ghost use Rattle.std.specs.Prelude.{false, ◌≡◌, [], ◌∷◌, ◌++◌, map, ◌+◌, ◌≤◌, ◌<◌, length, set, take, drop};
 ghost use Rattle.sheet.specs.Table.{table, after};
 ghost use Rattle.sheet.specs.Decode.{word_form, text_form, transition_of};
 ghost use Rattle.sheet.specs.Encode.{half_bytes, word_bytes, pair_bytes, paired_bytes, written};
@@ -289,7 +289,7 @@ fn tables(s: &[u8], h: Header, f: Frame, from: u32, out: &mut [u8], at: usize) -
     ensures { WritesTables s.now h f from out.old out.new at result }
 {
     let first = words(s, 14, h.monitors, out, at);
-    let conditions = texts(s, past_words(h.monitors), h.conditions, out, first);
+    let conditions = texts(s, 14 + 4 * wide(h.monitors), h.conditions, out, first);
     let second = put_two(out, conditions.at, 1, 0);
     let actions = texts(s, conditions.from, h.actions, out, second);
     let third = put(out, actions.at, 0);
@@ -362,20 +362,6 @@ pub(crate) fn translate(s: &[u8], out: &mut [u8]) -> Translated
     }
     fill(s, h, f, p.transitions, size, out);
     Translated::Written(size.at)
-}
-
-// Where the words behind the header end, by adding.
-pub(crate) fn past_words(n: u8) -> u32
-    ensures { result ≡ 14 + 4 * n }
-{
-    let two = twice(n);
-    14 + (two + two)
-}
-
-pub(crate) fn twice(x: u8) -> u32
-    ensures { (result ≡ 2 * x) × (result < 512) }
-{
-    wide(x) + wide(x)
 }
 
 pub(crate) fn near(x: u8) -> usize

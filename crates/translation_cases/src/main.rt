@@ -1,85 +1,86 @@
 // Translates framed sheets from standard input into buffers, and prints for each buffer the answer
 // and every byte it holds afterwards. reference/CASES.md has the format of the frames and lines.
+#![tactic(auto)]
 
-ghost use Rattle.std.specs.Prelude.{◌≡◌, ◌+◌, ◌≤◌, ◌<◌, length};
+ghost use Rattle.std.specs.Prelude.{◌≡◌, ◌+◌, ◌*◌, ◌≤◌, ◌<◌, length, IfOk};
 
+use std::io;
+use std::io::{BufWriter, Read, Write};
 use translation::Translated;
 
-const OUT: i32 = 1;
-
-fn main() {
-    let mut left: u32 = 64;
-    while 0 < left {
-        if page() {} else {
-            return;
-        }
-        left -= 1;
+// Reads at most 64 pages of frames, and carries out one after the other.
+fn main(rt: HostRuntime) -> io::Result<()> {
+    let mut input = Vec::new(rt.alloc());
+    rt.stdin().take(64 * 65536).read_to_end(&mut input)?;
+    let mut out = BufWriter::new(rt.alloc(), rt.stdout())?;
+    for page in input.chunks(65536) {
+        script(&mut out, page)?;
     }
-}
-
-// Reads a page of frames and carries it out; answers whether there was one.
-fn page() -> bool {
-    let mut input = io::large_buffer();
-    let n = io::read_full(0, &mut input);
-    script(&input[..n]);
-    0 < n
+    out.flush()
 }
 
 // Carries out the frames of a page, to the end or to a byte that begins none.
-fn script(s: &[u8])
+fn script<W: Write>(out: &mut W, s: &[u8]) -> io::Result<()>
     requires { length s.now ≤ 65536 }
 {
     let mut at = 0;
     while at < s.len() {
-        at = frame(s, at);
+        at = frame(out, s, at)?;
     }
+    Ok(())
 }
 
 // Runs the frame at a place: the place behind it. One that is cut short or of another form ends the page.
-fn frame(s: &[u8], at: usize) -> usize
+fn frame<W: Write>(out: &mut W, s: &[u8], at: usize) -> io::Result<usize>
     requires { (length s.now ≤ 65536) × (at < length s.now) }
-    ensures { at < result }
+    ensures { IfOk result (λ next. at < next) }
 {
     let form = byte(s, at);
     if (form < 2) | (3 < form) {
-        return s.len();
+        return Ok(s.len());
     }
     let end = at + 3 + short(s, at + 1);
     let next = end + 1 + 3 * byte(s, end);
     if next <= s.len() {
-        buffers(s, at, end, next);
+        buffers(out, s, at, end, next)?;
     }
-    next
+    Ok(next)
 }
 
 // Translates the sheet between a frame's head and `end` into each buffer named behind it.
-fn buffers(s: &[u8], start: usize, end: usize, next: usize)
+fn buffers<W: Write>(out: &mut W, s: &[u8], start: usize, end: usize, next: usize) -> io::Result<()>
     requires { (start + 3 ≤ end) × (end ≤ length s.now) × (length s.now ≤ 65536) × (next ≤ 65536) }
 {
     let form = byte(s, start);
-    let mut at = end + 1;
-    while at < next {
-        buffer(form, &s[start + 3..end], short(s, at), byte(s, at + 2));
-        at += 3;
+    for at in (end + 1..next).step_by(3) {
+        let size = short(s, at);
+        buffer(out, form, &s[start + 3..end], size, byte(s, at + 2))?;
     }
+    Ok(())
 }
 
 // Translates a sheet into a buffer of this length, and prints a line.
-fn buffer(form: usize, text: &[u8], size: usize, seed: usize)
+fn buffer<W: Write>(
+    out: &mut W,
+    form: usize,
+    text: &[u8],
+    size: usize,
+    seed: usize,
+) -> io::Result<()>
     requires { (size ≤ 65536) × (seed < 256) }
 {
     let mut room = pattern(seed);
     let answer = write(form, text, &mut room[..size]);
-    print_answer(answer);
-    print_bytes(&room, size);
-    print(b"\n");
+    print_answer(out, answer)?;
+    print_bytes(out, &room[..size])?;
+    writeln!(out)
 }
 
 // Translates a sheet of either form.
-fn write(form: usize, text: &[u8], out: &mut [u8]) -> Translated {
+fn write(form: usize, text: &[u8], room: &mut [u8]) -> Translated {
     match form {
-        2 => translation::translate(text, out),
-        _ => translation::translate_card(text, out),
+        2 => translation::translate(text, room),
+        _ => translation::translate_card(text, room),
     }
 }
 
@@ -89,64 +90,28 @@ fn pattern(seed: usize) -> [u8; 65536]
     ensures { 65536 ≡ length result }
 {
     let mut room = [0u8; 65536];
-    let mut i: usize = 0;
-    while i < 65536 {
+    for i in 0..65536 {
         room[i] = small(seed + 7 * i);
-        i += 1;
     }
     room
 }
 
-fn print_answer(a: Translated) {
+fn print_answer<W: Write>(out: &mut W, a: Translated) -> io::Result<()> {
     match a {
-        Translated::Written(n) => print_decimal(b"written ", n as u64),
-        Translated::Refused(n) => print_decimal(b"refused ", n as u64),
+        Translated::Written(n) => write!(out, "written {n}"),
+        Translated::Refused(n) => write!(out, "refused {n}"),
     }
 }
 
-// A space and two digits for each of the first n bytes; nothing where n is 0.
-fn print_bytes(room: &[u8; 65536], n: usize)
-    requires { n ≤ 65536 }
-{
-    if 0 < n {
-        print(b" ");
+// A space and two digits for each byte; nothing where there is none.
+fn print_bytes<W: Write>(out: &mut W, bytes: &[u8]) -> io::Result<()> {
+    if !bytes.is_empty() {
+        write!(out, " ")?;
     }
-    let mut at = 0;
-    while at < n {
-        print_piece(room, at, least(4096, n - at));
-        at += 4096;
+    for b in bytes {
+        write!(out, "{b:02x}")?;
     }
-}
-
-// Two digits for each of n bytes from a place on.
-fn print_piece(room: &[u8; 65536], at: usize, n: usize)
-    requires { (at + n ≤ 65536) × (n ≤ 4096) }
-{
-    let mut text = [0u8; 8192];
-    let mut i = 0;
-    while i < n {
-        let b = wide(room[at + i]);
-        text[2 * i] = digit(b / 16);
-        text[2 * i + 1] = digit(b % 16);
-        i += 1;
-    }
-    print(&text[..2 * n]);
-}
-
-// A digit as it is printed: 48 is `0`, and 87 is ten before `a`.
-fn digit(d: usize) -> u8
-    requires { d < 16 }
-{
-    if d < 10 { small(48 + d) } else { small(87 + d) }
-}
-
-fn print_decimal(name: &[u8], n: u64) {
-    print(name);
-    io::print_decimal(OUT, n);
-}
-
-fn print(text: &[u8]) {
-    io::write_all(OUT, text);
+    Ok(())
 }
 
 fn short(s: &[u8], at: usize) -> usize
@@ -161,12 +126,6 @@ fn byte(s: &[u8], at: usize) -> usize
     ensures { result < 256 }
 {
     if at < s.len() { wide(s[at]) } else { 0 }
-}
-
-fn least(a: usize, b: usize) -> usize
-    ensures { (result ≤ a) × (result ≤ b) }
-{
-    if a < b { a } else { b }
 }
 
 fn wide(x: u8) -> usize

@@ -23,27 +23,27 @@ use Rattle.engine.proofs.InWords.Failing.{low_few}
 -- What is lent, the transition that is found, what it leaves, and what all of it counts.
 module _ (s p : List ℕ) (r : Running) (row variables values : List ℕ) (n : ℕ) (en : n ≡ programs_in p) (program : List ℕ) (ep : program ≡ take n values) (m : ℕ) (em : m ≡ monitors_in p) (monitor : List ℕ) (ev : monitor ≡ take m variables) where
   module _ (unit cell : ℕ) (ec : cell ≡ cell_of r.main unit) (main : ℕ) (variables₁ : List ℕ) where
-    pub entered_there : (key : ℕ) → key ≡ 2 * cell → (first : ℕ) → first ≡ get_or p (8 + key) 0 → (t c : ℕ) → (t ≡ found_in s p first (environment program monitor [])) × (t ≤ 96) × (c ≡ found_count s p first (environment program monitor []))
+    pub entered_there : (first : ℕ) → first ≡ get_or p (8 + 2 * cell) 0 → (t c : ℕ) → (t ≡ found_in s p first (environment program monitor [])) × (t ≤ 96) × (c ≡ found_count s p first (environment program monitor []))
         → (c₁ : ℕ) → (main ≡ main_after p t r.main) × (variables₁ ≡ variables_after s p t values variables) × (c₁ ≡ action_count_after s p t values variables)
-        → (g : Given) → unit ≡ g.unit → (opened : ℕ) → opened ≡ r.opened → (at : ℕ) → at ≡ 16 * opened → (i : ℕ) → i ≡ candidate_of p cell t
-        → (row₁ : List ℕ) → row₁ ≡ sets (sets row at (g.number ∷ g.unit ∷ [])) (at + 7) ((r.position + 1) ∷ values)
-        → (row₂ : List ℕ) (c₂ : ℕ) → (c₂ ≡ armed_count s p i (environment program monitor [])) × (row₂ ≡ set (sets row₁ (at + 3) (take 4 (armed_in s p i (environment program monitor [])))) (at + 2) (length (armed_in s p i (environment program monitor []))))
+        → (g : Given) → unit ≡ g.unit → (opened : ℕ) → opened ≡ r.opened → (i : ℕ) → i ≡ candidate_of p cell t
+        → (row₁ : List ℕ) → row₁ ≡ sets (sets row (16 * opened) (g.number ∷ g.unit ∷ [])) (16 * opened + 7) ((r.position + 1) ∷ values)
+        → (row₂ : List ℕ) (c₂ : ℕ) → (c₂ ≡ armed_count s p i (environment program monitor [])) × (row₂ ≡ set (sets row₁ (16 * opened + 3) (take 4 (armed_in s p i (environment program monitor [])))) (16 * opened + 2) (length (armed_in s p i (environment program monitor []))))
         → (r₁ : Running) → r₁ ≡ run_after p r.position main (r.opened + 1) 256 0
         → (words r₁ row₂ variables₁ ≡ entered_in s p (words r row variables) g values) × (c + c₂ + c₁ ≡ entered_count s p (words r row variables) g values)
     unfolding entered_in entered_count row_with
-    entered_there key ek first ef t c found c₁ moved g eu opened eo at ea i ei row₁ e₁ row₂ c₂ arms r₁ er =
-        (rw (er, arms.1, e₁, moved.0, moved.1, ei, found.0, ef, ek, ec, eu, ea, eo, ev, em, ep, en), rw (found.2, arms.0, moved.2, ei, found.0, ef, ek, ec, eu, ev, em, ep, en))
+    entered_there first ef t c found c₁ moved g eu opened eo i ei row₁ e₁ row₂ c₂ arms r₁ er =
+        (rw (er, arms.1, e₁, moved.0, moved.1, ei, found.0, ef, ec, eu, eo, ev, em, ep, en), rw (found.2, arms.0, moved.2, ei, found.0, ef, ec, eu, ev, em, ep, en))
 
-    pub exited_there : (key : ℕ) → key ≡ 2 * cell → (first : ℕ) → first ≡ get_or p (9 + key) 0 → (t c : ℕ) → (t ≡ found_in s p first (environment program monitor [])) × (t ≤ 96) × (c ≡ found_count s p first (environment program monitor []))
+    pub exited_there : (first : ℕ) → first ≡ get_or p (9 + 2 * cell) 0 → (t c : ℕ) → (t ≡ found_in s p first (environment program monitor [])) × (t ≤ 96) × (c ≡ found_count s p first (environment program monitor []))
         → (c₁ : ℕ) → (main ≡ main_after p t r.main) × (variables₁ ≡ variables_after s p t values variables) × (c₁ ≡ action_count_after s p t values variables)
         → (at low c₂ : ℕ) → (low ≡ low_in s p row at program monitor) × (c₂ ≡ low_count s p row at program monitor) → (opened : ℕ) → opened ≡ r.opened
         → (row₁ : List ℕ) → row₁ ≡ row_without row at opened
         → (r₁ : Running) → r₁ ≡ run_after p r.position main (r.opened - 1) low (get_or row (at + 7) 0)
         → (words r₁ row₁ variables₁ ≡ exited_in s p (words r row variables) unit at values) × (c₂ + c + c₁ ≡ exited_count s p (words r row variables) unit at values)
     unfolding exited_in exited_count
-    exited_there key ek first ef t c found c₁ moved at low c₂ el opened eo row₁ e₁ r₁ er =
-        let place : 9 + key ≡ 8 + (2 * cell + 1) = omega (arith, ek) in
-        let there : first ≡ get_or p (8 + (2 * cell + 1)) 0 = ef ∙ ap (λ (k : ℕ). get_or p k 0) place in
+    exited_there first ef t c found c₁ moved at low c₂ el opened eo row₁ e₁ r₁ er =
+        let key : 9 + 2 * cell ≡ 8 + (2 * cell + 1) = omega arith in
+        let there : first ≡ get_or p (8 + (2 * cell + 1)) 0 = ef ∙ ap (λ (k : ℕ). get_or p k 0) key in
         (rw (er, e₁, moved.0, moved.1, el.0, found.0, there, ec, eo, ev, em, ep, en), rw (el.1, found.2, moved.2, found.0, there, ec, ev, em, ep, en))
 
 -- What an event is answered, as it is handed back.

@@ -14,33 +14,33 @@ use Rattle.engine.specs.declared.Given.{Given}
 use Rattle.engine.specs.Plan.{units_in, programs_in}
 use Rattle.engine.specs.Walk.{entry_refusal, exit_refusal, refusal_in}
 
-module _ (opened at end : ℕ) (last : end ≡ 16 * opened) where
-  pub entry_again : at < end → 13 ≡ entry_refusal opened at
+module _ (opened at : ℕ) where
+  pub entry_again : at < 16 * opened → 13 ≡ entry_refusal opened at
   unfolding entry_refusal
-  entry_again h = rw (lt-ltb at (16 * opened) (omega arith))
+  entry_again h = rw (lt-ltb at (16 * opened) h)
 
-  module _ (h : end ≤ at) where
+  module _ (h : 16 * opened ≤ at) where
     pub entry_free : opened < 16 → 0 ≡ entry_refusal opened at
     unfolding entry_refusal
-    entry_free k = rw (le-ltb at (16 * opened) (omega arith), lt-ltb opened 16 k)
+    entry_free k = rw (le-ltb at (16 * opened) h, lt-ltb opened 16 k)
 
     pub entry_full : 16 ≤ opened → 14 ≡ entry_refusal opened at
     unfolding entry_refusal
-    entry_full k = rw (le-ltb at (16 * opened) (omega arith), le-ltb opened 16 k)
+    entry_full k = rw (le-ltb at (16 * opened) h, le-ltb opened 16 k)
 
-module _ (row : List ℕ) (opened at unit end : ℕ) (last : end ≡ 16 * opened) where
-  module _ (h : at < end) where
+module _ (row : List ℕ) (opened at unit : ℕ) where
+  module _ (h : at < 16 * opened) where
     pub exit_free : get_or row (at + 1) 0 ≡ unit → 0 ≡ exit_refusal row opened at unit
     unfolding exit_refusal
-    exit_free e = rw (lt-ltb at (16 * opened) (omega arith), eq-eqb (get_or row (at + 1) 0) unit e)
+    exit_free e = rw (lt-ltb at (16 * opened) h, eq-eqb (get_or row (at + 1) 0) unit e)
 
     pub exit_other : (get_or row (at + 1) 0 ≡ unit → ⊥) → 15 ≡ exit_refusal row opened at unit
     unfolding exit_refusal
-    exit_other e = rw (lt-ltb at (16 * opened) (omega arith), ne_eqb (get_or row (at + 1) 0) unit e)
+    exit_other e = rw (lt-ltb at (16 * opened) h, ne_eqb (get_or row (at + 1) 0) unit e)
 
-  pub exit_unknown : end ≤ at → 15 ≡ exit_refusal row opened at unit
+  pub exit_unknown : 16 * opened ≤ at → 15 ≡ exit_refusal row opened at unit
   unfolding exit_refusal
-  exit_unknown h = rw (le-ltb at (16 * opened) (omega arith))
+  exit_unknown h = rw (le-ltb at (16 * opened) h)
 
 -- The refusals in their order.
 module _ (p : List ℕ) (r : Running) (row : List ℕ) (g : Given) (at : ℕ) where

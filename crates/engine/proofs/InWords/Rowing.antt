@@ -23,11 +23,11 @@ module _ (number opened : ℕ) (row : List ℕ) where
   pub looking_start : Looking number opened row 0
   looking_start = record { calls = 0; passed = passed_none (λ w. eqb (get_or w 0 0) number) (entries opened row); there = refl }
 
-  module _ (at : ℕ) (g : Looking number opened row at) (end : ℕ) (last : end ≡ 16 * opened) where
-    pub looking_end : end ≤ at → at ≡ place_in number opened row
+  module _ (at : ℕ) (g : Looking number opened row at) where
+    pub looking_end : 16 * opened ≤ at → at ≡ place_in number opened row
     looking_end h = g.there ∙ ap (λ (k : ℕ). 16 * k) (passed_end (λ w. eqb (get_or w 0 0) number) (entries opened row) g.calls g.passed (omega (arith, length_entries opened row, g.there)))
 
-    module _ (h : at < end) where
+    module _ (h : at < 16 * opened) where
       first : get_or (get_or (entries opened row) g.calls []) 0 0 ≡ get_or row at 0
       first = word_at opened row g.calls [] (omega (arith, g.there)) 0 (omega arith) ∙ ap (λ (k : ℕ). get_or row k 0) (omega (arith, g.there))
 
@@ -55,9 +55,9 @@ pub record Closing (old : List ℕ) (place opened end : ℕ) (row : List ℕ) (t
   pub last : end ≡ 16 * opened
 
 module _ (old : List ℕ) (place opened : ℕ) where
-  pub closing_start : (end : ℕ) → end ≡ 16 * opened → Closing old place opened end old place (place + 16)
+  pub closing_start : Closing old place opened (16 * opened) old place (place + 16)
   unfolding row_without
-  closing_start end e = record { same = ap (λ (k : ℕ). sets old place (slice (place + 16) k old)) e; long = refl; behind = refl; last = e }
+  closing_start = record { same = refl; long = refl; behind = refl; last = refl }
 
   module _ (end : ℕ) (row : List ℕ) (to from : ℕ) (g : Closing old place opened end row to from) where
     pub closing_end : end ≤ from → row ≡ row_without old place opened

@@ -85,8 +85,8 @@ pub record Tripling (s conditions : List ℕ) (at n : ℕ) (old p : List ℕ) (i
   pub there : here ≡ at + 4 * i
 
 module _ (s conditions : List ℕ) (at n : ℕ) (old : List ℕ) where
-  pub tripling_start : (far : ℕ) → far ≡ 4 * n → Tripling s conditions at n old old n (at + far)
-  tripling_start far e = record { linking = linking_start (with_triple s conditions) (starts triple_form n s at) old n (sym (length_starts triple_form n s at)); there = ap (λ (k : ℕ). at + k) e }
+  pub tripling_start : Tripling s conditions at n old old n (at + 4 * n)
+  tripling_start = record { linking = linking_start (with_triple s conditions) (starts triple_form n s at) old n (sym (length_starts triple_form n s at)); there = refl }
 
   module _ (p : List ℕ) (i here : ℕ) (g : Tripling s conditions at n old p i here) where
     pub tripling_few : i ≤ n
@@ -175,17 +175,15 @@ pub record Pairing (s conditions : List ℕ) (i at n : ℕ) (old p : List ℕ) (
   pub here : from + 2 * left ≡ at + 7 + 2 * n
 
 module _ (s conditions : List ℕ) (i at n : ℕ) (old : List ℕ) where
-  pub pairing_start : (first : ℕ) → first ≡ 4 * i → (far : ℕ) → far ≡ 3 * first → Pairing s conditions i at n old old n (at + 7) (1192 + far)
-  pairing_start first e far f =
-      let place : far ≡ 12 * i = omega arith in
-      record { same = ap (λ (k : ℕ). sets old (1192 + k) (pair_words s conditions n (at + 7))) place; there = omega arith; here = refl }
+  pub pairing_start : Pairing s conditions i at n old old n (at + 7) (1192 + 12 * i)
+  pairing_start = record { same = refl; there = refl; here = refl }
 
   module _ (p : List ℕ) where
-    pub pairing_end : (left from to : ℕ) → Pairing s conditions i at n old p left from to → left ≤ 0 → n ≡ min (byte s (at + 6)) 4 → (first : ℕ) → first ≡ 4 * i → (r : ℕ) → r ≡ cond (eqb n 0) 1000 first → set p (936 + i) r ≡ with_pairs s conditions i at old
+    pub pairing_end : (left from to : ℕ) → Pairing s conditions i at n old p left from to → left ≤ 0 → n ≡ min (byte s (at + 6)) 4 → (r : ℕ) → r ≡ cond (eqb n 0) 1000 (4 * i) → set p (936 + i) r ≡ with_pairs s conditions i at old
     unfolding pair_words with_pairs
-    pairing_end (suc left) from to g h e first f r er = absurd (omega arith)
-    pairing_end zero from to g h e first f r er =
-        (λ j. set (g.same j) (936 + i) ((er ∙ ap (cond (eqb n 0) 1000) f) j)) ∙ ap (λ (m : ℕ). set (sets old (1192 + 12 * i) (pair_words s conditions m (at + 7))) (936 + i) (cond (eqb m 0) 1000 (4 * i))) e
+    pairing_end (suc left) from to g h e r er = absurd (omega arith)
+    pairing_end zero from to g h e r er =
+        (λ j. set (g.same j) (936 + i) (er j)) ∙ ap (λ (m : ℕ). set (sets old (1192 + 12 * i) (pair_words s conditions m (at + 7))) (936 + i) (cond (eqb m 0) 1000 (4 * i))) e
 
     pub pairing_next : (left from to : ℕ) → Pairing s conditions i at n old p left from to → 0 < left → (q : Pair) → q ≡ pair_form.value (drop from s) → (x : ℕ) → x ≡ text_place s conditions q.condition → (y : ℕ) → y ≡ q.template
         → (z : ℕ) → z ≡ cond (eqb (left - 1) 0) 1000 0 → Pairing s conditions i at n old (set (set (set p to x) (to + 1) y) (to + 2) z) (left - 1) (from + 2) (to + 3)

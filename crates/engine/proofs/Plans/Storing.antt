@@ -63,21 +63,21 @@ module _ (p : List ℕ) (k x y z : ℕ) where
       λ i. set (stores_three i) (three i) g
 
 module _ (s conditions p : List ℕ) (i at : ℕ) where
-  module _ (place : ℕ) (there : place ≡ 4 * i) (actions : List ℕ) (t : Transition) (e : t ≡ transition_of (drop at s)) (key : ℕ) (ek : key ≡ key_of t.from t.unit t.kind) (gap : ℕ) (eg : gap ≡ get_or p (8 + key) 0 - suc i)
+  module _ (actions : List ℕ) (t : Transition) (e : t ≡ transition_of (drop at s)) (key : ℕ) (ek : key ≡ key_of t.from t.unit t.kind) (gap : ℕ) (eg : gap ≡ get_or p (8 + key) 0 - suc i)
       (x : ℕ) (ex : x ≡ text_place s conditions t.condition) (y : ℕ) (ey : y ≡ action_place s actions t.action) (z : ℕ) (ez : z ≡ t.to) where
-    pub transition_words_lem : set (set (set (set (set p (552 + place) x) (552 + place + 1) y) (552 + place + 2) z) (552 + place + 3) gap) (8 + key) i ≡ with_transition s conditions actions i at p
+    pub transition_words_lem : set (set (set (set (set p (552 + 4 * i) x) (552 + 4 * i + 1) y) (552 + 4 * i + 2) z) (552 + 4 * i + 3) gap) (8 + key) i ≡ with_transition s conditions actions i at p
     unfolding with_transition
     transition_words_lem =
         let behind : gap ≡ get_or p (8 + key_of t.from t.unit t.kind) 0 - suc i = eg ∙ ap (λ (k : ℕ). get_or p (8 + k) 0 - suc i) ek in
-        ap (λ (q : List ℕ). set q (8 + key) i) (stores_four p (552 + place) x y z gap)
-        ∙ (λ j. set (sets p (552 + there j) (ex j ∷ ey j ∷ ez j ∷ behind j ∷ [])) (8 + ek j) i)
+        ap (λ (q : List ℕ). set q (8 + key) i) (stores_four p (552 + 4 * i) x y z gap)
+        ∙ (λ j. set (sets p (552 + 4 * i) (ex j ∷ ey j ∷ ez j ∷ behind j ∷ [])) (8 + ek j) i)
         ∙ ap (λ (u : Transition). let k = 8 + key_of u.from u.unit u.kind in set (sets p (552 + 4 * i) (text_place s conditions u.condition ∷ action_place s actions u.action ∷ u.to ∷ (get_or p k 0 - suc i) ∷ [])) k i) e
 
-  module _ (place : ℕ) (there : place ≡ 3 * i) (t : Triple) (e : t ≡ triple_form.value (drop at s)) (cell : ℕ) (ec : cell ≡ cell_of t.state t.unit) (gap : ℕ) (eg : gap ≡ get_or p (936 + cell) 0 - suc i) (x : ℕ) (ex : x ≡ text_place s conditions t.precondition) where
-    pub triple_words_lem : set (set (set (set p (1192 + place) x) (1192 + place + 1) i) (1192 + place + 2) gap) (936 + cell) i ≡ with_triple s conditions i at p
+  module _ (t : Triple) (e : t ≡ triple_form.value (drop at s)) (cell : ℕ) (ec : cell ≡ cell_of t.state t.unit) (gap : ℕ) (eg : gap ≡ get_or p (936 + cell) 0 - suc i) (x : ℕ) (ex : x ≡ text_place s conditions t.precondition) where
+    pub triple_words_lem : set (set (set (set p (1192 + 3 * i) x) (1192 + 3 * i + 1) i) (1192 + 3 * i + 2) gap) (936 + cell) i ≡ with_triple s conditions i at p
     unfolding with_triple
     triple_words_lem =
         let behind : gap ≡ get_or p (936 + cell_of t.state t.unit) 0 - suc i = eg ∙ ap (λ (k : ℕ). get_or p (936 + k) 0 - suc i) ec in
-        ap (λ (q : List ℕ). set q (936 + cell) i) (stores_three p (1192 + place) x i gap)
-        ∙ (λ j. set (sets p (1192 + there j) (ex j ∷ i ∷ behind j ∷ [])) (936 + ec j) i)
+        ap (λ (q : List ℕ). set q (936 + cell) i) (stores_three p (1192 + 3 * i) x i gap)
+        ∙ (λ j. set (sets p (1192 + 3 * i) (ex j ∷ i ∷ behind j ∷ [])) (936 + ec j) i)
         ∙ ap (λ (u : Triple). let k = 936 + cell_of u.state u.unit in set (sets p (1192 + 3 * i) (text_place s conditions u.precondition ∷ i ∷ (get_or p k 0 - suc i) ∷ [])) k i) e

@@ -8,7 +8,7 @@ use borrow.Author.Tests.{eq-eqb, le-leb}
 use lib.Dec.{eqb, leb, ltb}
 use lib.ListN.{length, get_or, take, drop, length-take, length-map}
 use lib.Seq.{length-take-le}
-use Rattle.sheet.specs.declared.Header.{Header}
+use Rattle.sheet.specs.declared.Triple.{Triple}
 use Rattle.sheet.specs.Table.{every}
 use Rattle.sheet.specs.Parts.{Sheet}
 use Rattle.sheet.specs.Decode.{transition_form, triple_form, last_in, last_at, common_of, sheet_of}
@@ -22,13 +22,12 @@ use Rattle.step.proofs.OnLists.Rooms.{tidy_calls}
 use Rattle.step.specs.Padding.{clear, padded, is_zero_call}
 use Rattle.monitor.specs.declared.Arms.{Arms}
 use Rattle.monitor.specs.declared.sound.Tables.{Tables}
-use Rattle.monitor.specs.declared.sound.Owners.{Owners}
 use Rattle.monitor.specs.declared.WatchState.{WatchState}
 use Rattle.monitor.specs.Monitor.{Armed, triple_in}
 use Rattle.monitor.specs.Sound.{of_one_state, call_sound, verdict_sound, sound}
 use Rattle.monitor.specs.Padded.{unpad_armed, view, is_zero_arms, tidy_arms, tidy, sound_state}
-use Rattle.monitor.specs.Walk.{tables_of, states_at, units_at, of_unit, of_state, call_tested}
-use Rattle.monitor.proofs.SoundTests.Triples.{triples_few, state_there, unit_there}
+use Rattle.monitor.specs.Walk.{tables_of, triple_at}
+use Rattle.monitor.proofs.SoundTests.Triples.{triple_there}
 use Rattle.monitor.proofs.States.Views.{length_beside, beside_left}
 use Rattle.step.specs.Calls.{entries_sound}
 
@@ -47,46 +46,35 @@ pub triples_in : (s : List ℕ) → length (sheet_of s).triples ≡ last_in s
 unfolding sheet_of
 triples_in s = length_records triple_form (last_in s) (drop (last_at transition_form s) s)
 
--- the tests of the triples armed, by the tables and on the sheet
+-- the tests of the triples armed, on the bytes and on the sheet
 module _ {s : List ℕ} (a : Accepted sheet_layout s) where
-  abbrev states_of : List ℕ
-  states_of = states_at (last_in s) s (last_at transition_form s)
-
-  abbrev units_of_lem : List ℕ
-  units_of_lem = units_at (last_in s) s (last_at transition_form s)
-
-  unit_same : (unit : ℕ) (l : List ℕ) → of_unit units_of_lem (last_in s) unit l ≡ every (λ i. ltb i (length (sheet_of s).triples) && eqb (triple_in (sheet_of s) i).unit unit) l
+  unit_same : (unit : ℕ) (l : List ℕ)
+      → every (λ i. ltb i (last_in s) && eqb (triple_at s (last_at transition_form s) i).unit unit) l ≡ every (λ i. ltb i (length (sheet_of s).triples) && eqb (triple_in (sheet_of s) i).unit unit) l
   unit_same unit l =
-      every_same (λ i. ltb i (last_in s) && eqb (get_or units_of_lem i 0) unit) (λ i. ltb i (length (sheet_of s).triples) && eqb (triple_in (sheet_of s) i).unit unit)
-      (λ i. ap₂ (λ (n u : ℕ). ltb i n && eqb u unit) (sym (triples_in s)) (unit_there a i)) l
+      every_same (λ i. ltb i (last_in s) && eqb (triple_at s (last_at transition_form s) i).unit unit) (λ i. ltb i (length (sheet_of s).triples) && eqb (triple_in (sheet_of s) i).unit unit)
+      (λ i. ap₂ (λ (n : ℕ) (t : Triple). ltb i n && eqb t.unit unit) (sym (triples_in s)) (triple_there a i)) l
 
-  state_same : (n : ℕ) (l : List ℕ) → of_state states_of (get_or l 0 0) (take n l) ≡ of_one_state (sheet_of s) (take n l)
+  state_same : (n : ℕ) (l : List ℕ)
+      → every (λ i. eqb (triple_at s (last_at transition_form s) i).state (triple_at s (last_at transition_form s) (get_or l 0 0)).state) (take n l) ≡ of_one_state (sheet_of s) (take n l)
   state_same n l =
-      every_same (λ i. eqb (get_or states_of i 0) (get_or states_of (get_or l 0 0) 0)) (λ i. eqb (triple_in (sheet_of s) i).state (triple_in (sheet_of s) (get_or l 0 0)).state)
-      (λ i. ap₂ eqb (state_there a i) (state_there a (get_or l 0 0))) (take n l)
+      every_same (λ i. eqb (triple_at s (last_at transition_form s) i).state (triple_at s (last_at transition_form s) (get_or l 0 0)).state) (λ i. eqb (triple_in (sheet_of s) i).state (triple_in (sheet_of s) (get_or l 0 0)).state)
+      (λ i. ap₂ (λ (t u : Triple). eqb t.state u.state) (triple_there a i) (triple_there a (get_or l 0 0))) (take n l)
       ∙ first_same (λ i. (triple_in (sheet_of s) i).state) n l
 
--- the tables have room
-pub last_few : (s : List ℕ) (t : Tables) → (reading sheet_layout s ≡ 0) × (t ≡ tables_of s) → t.header.last ≤ 32
-last_few s t (h, e) = rw e (triples_few (accepted sheet_layout s h))
-
 -- a call with what is armed for it
-pub call_tested_lem : (h : Header) (held : Owners) (call : Call) (arms : Arms) (q : Bool) → q ≡ ltb call.unit h.units → (w : ℕ) → w ≡ arms.count
-    → (r : Bool) → r ≡ rising (take w arms.triples) → (u : Bool) → u ≡ of_unit held.units h.last call.unit (take w arms.triples)
-    → (o : Bool) → o ≡ of_state held.states (get_or arms.triples 0 0) (take w arms.triples) → (q && (r && (u && o))) ≡ call_tested h held call arms
-unfolding call_tested
-call_tested_lem h held call arms q v w f r x u y o z = rw (v, x, y, z, f)
-
-pub call_is : (s : List ℕ) (t : Tables) → (reading sheet_layout s ≡ 0) × (t ≡ tables_of s) → (held : Owners) → (held.states ≡ states_at t.header.last s t.triples) × (held.units ≡ units_at t.header.last s t.triples) → (call : Call) (arms : Arms)
-    → (b : Bool) → (b ≡ call_tested t.header held call arms) × (length call.kept ≡ 8) × (length arms.triples ≡ 4) → b ≡ call_sound (sheet_of s) (unpad_armed t.header.programs call arms)
-unfolding call_tested call_sound sheet_of common_of
-call_is s t (h, e) held (f, g) call arms b (x, kept, long) =
+pub call_is : (s : List ℕ) (t : Tables) → (reading sheet_layout s ≡ 0) × (t ≡ tables_of s) → (call : Call) (arms : Arms) → length arms.triples ≡ 4
+    → (q : Bool) → (q ≡ ltb call.unit t.header.units) × (length call.kept ≡ 8) → (w : ℕ) → (w ≡ arms.count) × (w < 256) → (r : Bool) → r ≡ rising (take w arms.triples)
+    → (u : Bool) → u ≡ every (λ i. ltb i t.header.last && eqb (triple_at s t.triples i).unit call.unit) (take w arms.triples)
+    → (o : Bool) → o ≡ every (λ i. eqb (triple_at s t.triples i).state (triple_at s t.triples (get_or arms.triples 0 0)).state) (take w arms.triples)
+    → (q && (r && (u && o))) ≡ call_sound (sheet_of s) (unpad_armed t.header.programs call arms)
+unfolding call_sound sheet_of common_of
+call_is s t (h, e) call arms long q (v, kept) w (f, g) r x u y o z =
     let a = accepted sheet_layout s h in
     let P = (common_of s).programs in
     let few : P ≤ 8 = (bounds a).programs in
     let k : eqb (length (take P call.kept)) P ≡ true = eq-eqb (length (take P call.kept)) P (length-take-le P call.kept (omega arith)) in
     let m : leb (length (take arms.count arms.triples)) 4 ≡ true = le-leb (length (take arms.count arms.triples)) 4 (omega (arith, length-take arms.count arms.triples)) in
-    rw (x, f, g, e, k, m, unit_same a call.unit (take arms.count arms.triples), state_same a arms.count arms.triples)
+    rw (v, x, y, z, e, f, k, m, unit_same a call.unit (take arms.count arms.triples), state_same a arms.count arms.triples)
 
 between : (k z t a : Bool) → ((k && z) && (t && a)) ≡ (k && (t && (z && a)))
 between true true t a = refl

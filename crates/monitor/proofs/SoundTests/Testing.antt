@@ -2,18 +2,21 @@
 use mathlib.Core.Path.{◌≡◌, refl, sym, ap, ap₂, ◌∙◌}
 use mathlib.Core.Bool.{Bool, true, false, ◌&&◌}
 use mathlib.Core.List.{List, [], ◌∷◌}
-use Prim.Native.Nat.{ℕ, zero, suc, ◌+◌, ◌≤◌, ◌<◌}
+use Prim.Native.Nat.{ℕ, zero, suc, ◌+◌, ◌*◌, ◌≤◌, ◌<◌}
 use native.Mathlib.Omega.{arith}
 use borrow.Author.Tests.{eq-eqb}
 use lib.Dec.{eqb, leb, ltb}
 use lib.ListN.{length, get_or, take, drop, length-take}
 use lib.Seq.{get_or-take}
+use Rattle.sheet.specs.declared.Triple.{Triple}
 use Rattle.sheet.specs.Table.{every}
+use Rattle.sheet.specs.Decode.{triple_form}
 use Rattle.step.specs.Lists.{beside}
 use Rattle.step.specs.Padding.{clear}
 use Rattle.step.proofs.OnLists.Turns.{every_end, every_next, every_fails}
 use Rattle.monitor.specs.declared.Arms.{Arms}
 use Rattle.monitor.specs.Padded.{tidy_arms}
+use Rattle.monitor.specs.Walk.{triple_at}
 use Rattle.monitor.proofs.States.Views.{length_beside}
 
 -- Tests on the first `n` elements of a row, each with the one beside it in a second row.
@@ -50,13 +53,16 @@ module _ {A B C : Type 0} (f : A → B → C) (p : C → Bool) (l : List A) (m :
     pub pair_fails : p (f (get_or l i d) (get_or m i e)) ≡ false → false ≡ b
     pair_fails t = every_fails p (beside f (take n l) (take n m)) i b g (f d e) both_there (ap p both_at ∙ t)
 
--- The tests of what is found by its number.
-module _ (held : List ℕ) (k x : ℕ) (e : x ≡ get_or held k 0) where
-  pub unit_is : (n unit : ℕ) (b : Bool) → (ltb k n && eqb x unit) ≡ b → (ltb k n && eqb (get_or held k 0) unit) ≡ b
-  unit_is n unit b h = ap (λ (u : ℕ). ltb k n && eqb u unit) (sym e) ∙ h
+-- A triple that is read at its place, and the test of one.
+module _ (s : List ℕ) (at k a w : ℕ) (t : Triple) (e : (a ≡ at) × (a < 65536)) (f : (w ≡ k) × (w < 256)) (g : t ≡ triple_form.value (drop (a + 4 * w) s)) where
+  pub triple_read : t ≡ triple_at s at k
+  triple_read = g ∙ ap₂ (λ (x y : ℕ). triple_form.value (drop (x + 4 * y) s)) e.0 f.0
 
-  pub state_is : (j y : ℕ) → y ≡ get_or held j 0 → (b : Bool) → eqb x y ≡ b → eqb (get_or held k 0) (get_or held j 0) ≡ b
-  state_is j y r b h = ap₂ eqb (sym e) (sym r) ∙ h
+  pub unit_is : (n unit : ℕ) (b : Bool) → (ltb k n && eqb t.unit unit) ≡ b → (ltb k n && eqb (triple_at s at k).unit unit) ≡ b
+  unit_is n unit b h = ap (λ (u : Triple). ltb k n && eqb u.unit unit) (sym triple_read) ∙ h
+
+  pub state_is : (j : ℕ) (u : Triple) → u ≡ triple_at s at j → (b : Bool) → eqb t.state u.state ≡ b → eqb (triple_at s at k).state (triple_at s at j).state ≡ b
+  state_is j u r b h = ap₂ (λ (x y : Triple). eqb x.state y.state) (sym triple_read) (sym r) ∙ h
 
 -- one is of its own
 pub one_state : (f : ℕ → ℕ) (n : ℕ) (l : List ℕ) → n < 2 → true ≡ every (λ i. eqb (f i) (f (get_or l 0 0))) (take n l)

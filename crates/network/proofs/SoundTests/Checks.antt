@@ -9,6 +9,7 @@ use borrow.Author.Tests.{eq-eqb, le-leb}
 use lib.Dec.{eqb, leb, ltb}
 use lib.ListN.{length, take, drop, length-take, length-map}
 use lib.Seq.{length-take-le}
+use Rattle.sheet.specs.declared.Template.{Template}
 use Rattle.sheet.specs.Table.{every}
 use Rattle.sheet.specs.Parts.{Network}
 use Rattle.sheet.specs.Decode.{paired_form, last_in, last_at, common_of, network_of}
@@ -31,9 +32,9 @@ use Rattle.network.specs.declared.sound.Tables.{Tables}
 use Rattle.network.specs.Network.{template_in, bound_to, of_number}
 use Rattle.network.specs.Sound.{call_sound, on_call, entry_of_call, four_acall, never_falls, in_order, checkers_sound, sound}
 use Rattle.network.specs.Padded.{view, is_zero_checker, tidy, sound_state}
-use Rattle.network.specs.Walk.{tables_of, units_at, on_call_of, carried_in}
+use Rattle.network.specs.Walk.{tables_of, on_call_at, carried_in}
 use Rattle.network.proofs.States.Ordering.{images_same}
-use Rattle.network.proofs.SoundTests.Templates.{templates_in, templates_few, unit_there}
+use Rattle.network.proofs.SoundTests.Templates.{templates_in, template_there}
 
 -- tests that agree on a list's elements
 pub every_alike : {A : Type 0} (p q : A → Bool) (l : List A) → ((x : A) → Among x l → p x ≡ q x) → every p l ≡ every q l
@@ -76,17 +77,12 @@ unfolding entry_of_call
 carried_same P calls l =
     every_same (carried_in calls) (entry_of_call (map (unpad P) calls)) (λ h. sym (any_map (λ (c : Calls.Call). eqb c.number h.number && eqb c.entry h.entry) (unpad P) calls)) l
 
--- the table has room
-pub last_few : (s : List ℕ) (t : Tables) → (reading network_layout s ≡ 0) × (t ≡ tables_of s) → t.header.last ≤ 32
-last_few s t (h, e) = rw e (templates_few (accepted network_layout s h))
-
--- the test of a checker's call, by the table and on the network
 on_same : {s : List ℕ} → Accepted network_layout s → (P : ℕ) (calls : List Call) (l : List Checker)
-    → every (on_call_of (units_at (last_in s) s (last_at paired_form s)) (last_in s) calls) l ≡ every (on_call (network_of s) (map (unpad P) calls)) l
+    → every (on_call_at s (last_at paired_form s) (last_in s) calls) l ≡ every (on_call (network_of s) (map (unpad P) calls)) l
 unfolding on_call
 on_same {s} a P calls l =
-    every_same (on_call_of (units_at (last_in s) s (last_at paired_form s)) (last_in s) calls) (on_call (network_of s) (map (unpad P) calls)) (λ h.
-    ap₂ (λ (n u : ℕ). ltb h.template n && any (λ (c : Call). eqb c.number h.number && eqb c.unit u) calls) (sym (templates_in s)) (unit_there a h.template)
+    every_same (on_call_at s (last_at paired_form s) (last_in s) calls) (on_call (network_of s) (map (unpad P) calls)) (λ h.
+    ap₂ (λ (n : ℕ) (t : Template). ltb h.template n && any (λ (c : Call). eqb c.number h.number && eqb c.unit t.unit) calls) (sym (templates_in s)) (template_there a h.template)
     ∙ ap (λ (b : Bool). ltb h.template (length (network_of s).templates) && b) (sym (any_map (λ (c : Calls.Call). eqb c.number h.number && eqb c.unit (template_in (network_of s) h.template).unit) (unpad P) calls))) l
 
 -- A state's zeros, and what it shows.
@@ -141,7 +137,7 @@ pub sound_is : (s : List ℕ) (t : Tables) → (reading network_layout s ≡ 0) 
     → (b₅ : Bool) → b₅ ≡ distinct (map (λ (c : Call). c.number) (take o w.calls))
     → (b₆ : Bool) → b₆ ≡ entries_sound w.position (map (λ (c : Call). c.entry) (take o w.calls))
     → (b₇ : Bool) → b₇ ≡ every (λ (c : Call). ltb c.unit t.header.units) (take o w.calls)
-    → (b₈ : Bool) → b₈ ≡ every (on_call_of (units_at t.header.last s t.templates) t.header.last (take o w.calls)) (take l w.checkers)
+    → (b₈ : Bool) → b₈ ≡ every (on_call_at s t.templates t.header.last (take o w.calls)) (take l w.checkers)
     → (b₉ : Bool) → b₉ ≡ every (carried_in (take o w.calls)) (take l w.checkers)
     → (b₁₀ : Bool) → b₁₀ ≡ every (λ (c : Call). leb (length (keep (λ (h : Checker). eqb h.number c.number) (take l w.checkers))) 4) (take o w.calls)
     → (b₁₁ : Bool) → b₁₁ ≡ never_falls 0 (map (λ (h : Checker). place_of (λ (c : Call). eqb c.number h.number) (take o w.calls)) (take l w.checkers))

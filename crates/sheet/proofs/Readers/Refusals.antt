@@ -1,12 +1,12 @@
 -- From the tests on the bytes to the refusal's number. Assumes nothing.
 use mathlib.Core.Path.{◌≡◌, refl, sym, ap, ap₂, ◌∙◌}
-use mathlib.Core.Bool.{Bool, true, false, not, ◌&&◌, and_comm}
+use mathlib.Core.Bool.{Bool, true, false, not, ◌&&◌}
 use mathlib.Core.List.{List, [], ◌∷◌}
 use Prim.Native.Nat.{ℕ, ◌≤◌}
 use native.Mathlib.Omega.{arith}
 use borrow.Author.Tests.{ltb-true, ltb-false, lt-ltb}
 use lib.Dec.{eqb, ltb, leb}
-use lib.ListN.{length, get_or, take, drop, get_or-eq_default}
+use lib.ListN.{length, get_or, drop, get_or-eq_default}
 use Rattle.condition.specs.declared.Lent.{Lent}
 use Rattle.condition.specs.Tree.{Variable, condition_names, action_names, is_monitor, is_at_entry}
 use Rattle.condition.specs.Parse.{parse_condition, condition_from, condition_operator}
@@ -17,16 +17,14 @@ use Rattle.sheet.specs.declared.Triple.{Triple}
 use Rattle.sheet.specs.declared.Pair.{Pair}
 use Rattle.sheet.specs.declared.Template.{Template}
 use Rattle.sheet.specs.declared.walk.Tables.{Tables}
-use Rattle.sheet.specs.declared.ranged.Templates.{Templates}
 use Rattle.sheet.specs.Bytes.{byte}
 use Rattle.sheet.specs.Table.{table, starts, fit, every}
 use Rattle.sheet.specs.Parts.{Paired}
 use Rattle.sheet.specs.Decode.{wide, text_form, transition_form, triple_form, paired_form, template_form, conditions_in, actions_in, transitions_in, last_in, last_at, conditions_at, actions_at, transitions_at, common_of}
-use Rattle.sheet.specs.Reading.{together, transition_ranged, triple_ranged, counts_of, counts_hold, Layout, Use, guard, precondition, postcondition, between, lent_in, condition_in, names_entry, used_well, whole, counted, tabled, formed, ranged, roled, transitions_of, last_of, reading, sheet_layout, network_layout}
-use Rattle.sheet.specs.Walk.{templates_ranged, paired_fits, within, Finds, condition_lengths, action_lengths, tables_of, names_at, guard_suits, triple_suits, paired_suits, template_suits}
+use Rattle.sheet.specs.Reading.{together, transition_ranged, triple_ranged, template_ranged, counts_of, counts_hold, Layout, Use, guard, precondition, postcondition, between, lent_in, condition_in, names_entry, used_well, whole, counted, tabled, formed, ranged, roled, transitions_of, last_of, reading, sheet_layout, network_layout}
+use Rattle.sheet.specs.Walk.{paired_ranged, within, Finds, condition_lengths, action_lengths, tables_of, names_at, guard_suits, triple_suits, paired_suits, template_suits}
 use Rattle.sheet.proofs.Tests.{and_iff, leb_iff}
 use Rattle.sheet.proofs.Tables.{and_parts, and_both, and_assoc, and_true, length_records, indexed, every_same, every_map, every_weaker}
-use Rattle.sheet.proofs.Readers.Units.{paired_fits_lem, units_there}
 
 -- the cascade, each step under those before it
 module _ {T R : Type 0} (F : Layout T R) (s : List ℕ) where
@@ -147,10 +145,6 @@ module _ (s : List ℕ) where
   pub few_conditions_lem : (c a t : ℕ) → c ≤ 161 → counts_hold c a t s ≡ true → byte s 10 ≤ 161
   few_conditions_lem c a t h e = let f = simp (and_iff, leb_iff) at e in omega arith
 
-  pub few_templates : counted network_layout s ≡ true → byte s 13 ≤ 32
-  unfolding counted
-  few_templates e = let f = simp (and_iff, leb_iff) at e in omega arith
-
   pub few_network : counted network_layout s ≡ true → byte s 10 ≤ 161
   unfolding counted
   few_network e = few_conditions_lem (network_layout.conditions (wide s)) 33 96 (go (wide s)) e
@@ -170,10 +164,9 @@ module _ (s : List ℕ) (k : Counts) (ek : k ≡ counts_of (common_of s)) (n m a
   unfolding ranged
   sheet_ranged_found eb ex ey = rw (ex, ey, ek, en, ea, em, eb)
 
-  pub network_ranged_found : b ≡ last_at paired_form s → m ≤ 32 → (r : Templates) → r ≡ templates_ranged k (table template_form m s b) → x ≡ every (paired_fits k (take m r.units)) (table paired_form n s a) → (r.ok && x) ≡ ranged network_layout (common_of s) (transitions_of network_layout s) (last_of network_layout s)
+  pub network_ranged_found : b ≡ last_at paired_form s → x ≡ every (paired_ranged k (table template_form m s b)) (table paired_form n s a) → y ≡ every (template_ranged k) (table template_form m s b) → (x && y) ≡ ranged network_layout (common_of s) (transitions_of network_layout s) (last_of network_layout s)
   unfolding ranged
-  network_ranged_found eb few r er ex =
-      and_comm r.ok x ∙ rw (ex, er, units_there m s b few, paired_fits_lem k (table template_form m s b) (table paired_form n s a), ek, en, ea, em, eb)
+  network_ranged_found eb ex ey = rw (ex, ey, ek, en, ea, em, eb)
 
 module _ (s : List ℕ) (few : byte s 10 ≤ 161) (l : Lent) (el : l ≡ lent_in (common_of s)) (v : Bool) (ev : v ≡ wide s) (index : List ℕ) (c d : ℕ) (ei : index ≡ fit 161 0 (starts (text_form v) c s d)) (ec : c ≡ conditions_in s) (ed : d ≡ conditions_at s) (k e : ℕ) (ek : k ≡ actions_in s) (ee : e ≡ actions_at s) (n m a b : ℕ) (en : n ≡ transitions_in s) (em : m ≡ last_in s) (ea : a ≡ transitions_at s) (w x y : Bool) (ew : w ≡ every (λ t. not (action_which (λ r. action_names r is_at_entry) l t)) (table (text_form false) k s e)) where
   free_found : w ≡ every (λ t. not (action_which (λ r. action_names r is_at_entry) (lent_in (common_of s)) t)) (common_of s).actions

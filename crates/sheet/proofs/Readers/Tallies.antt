@@ -126,7 +126,7 @@ module _ (n : ℕ) (s : List ℕ) (at : ℕ) (ranged : every within (table tripl
       let m : left ≡ 0 = omega arith in
       tallied_end triples ranged counts (subst (λ (k : ℕ). Tallied triples (onwards k) counts) m g.all)
 
-  module _ (z : 0 < left) (u : Triple) (a b : ℕ) (eu : u ≡ triple_form.value (drop place s)) (ea : a ≡ 16 * u.state) (eb : b ≡ u.unit) where
+  module _ (z : 0 < left) (u : Triple) (a b : ℕ) (eu : u ≡ triple_form.value (drop place s)) (ea : a ≡ u.state) (eb : b ≡ u.unit) where
     abbrev rest : List Triple
     rest = table triple_form (left - 1) s (place + 4)
 
@@ -135,11 +135,11 @@ module _ (n : ℕ) (s : List ℕ) (at : ℕ) (ranged : every within (table tripl
         let m : left ≡ suc (left - 1) = omega arith in
         rw eu (rw (table_step triple_form (left - 1) s place) at (subst (λ (k : ℕ). Tallied triples (onwards k) counts) m g.all))
 
-    pub tallying_below : a + b < 256
+    pub tallying_below : 16 * a + b < 256
     tallying_below = rw (ea, eb) (tallied_below triples ranged counts u rest present)
 
-    pub tallying_full : 4 ≤ get_or counts (a + b) 0 → false ≡ apart triples
+    pub tallying_full : 4 ≤ get_or counts (16 * a + b) 0 → false ≡ apart triples
     tallying_full k = tallied_full triples ranged counts u rest present (rw (ea, eb) at k)
 
-    pub tallying_next : get_or counts (a + b) 0 < 4 → Tallying n s at (set counts (a + b) (get_or counts (a + b) 0 + 1)) (place + 4) (left - 1)
+    pub tallying_next : get_or counts (16 * a + b) 0 < 4 → Tallying n s at (set counts (16 * a + b) (get_or counts (16 * a + b) 0 + 1)) (place + 4) (left - 1)
     tallying_next k = record { all = rw (ea, eb) (tallied_next triples ranged counts u rest present (rw (ea, eb) at k)); room = omega (arith, g.room) }

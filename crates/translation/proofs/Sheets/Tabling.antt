@@ -24,7 +24,7 @@ use Rattle.translation.proofs.Sheets.Filling.{tables_length, network_small}
 use Rattle.translation.proofs.Writing.{Writing, writing_start, writing_room, writing_next, writing_last}
 
 -- behind the values
-pub words_after : (s : List ℕ) (v n : ℕ) → n ≡ 14 + 4 * v → n ≡ after word_form v s 14
+pub words_after : (s : List ℕ) (v n : ℕ) → n ≡ v → 14 + 4 * n ≡ after word_form v s 14
 words_after s v n e = omega (arith, fixed_after word_form 4 (λ t. refl) v s 14)
 
 module _ {s : List ℕ} {h : Header} {f : Frame} {from : ℕ} (p : Prepared s h f from) (o : List ℕ) (at : ℕ) (e : at ≡ 14) where

@@ -1,10 +1,8 @@
 -- `event::arm` meets its contract. Assumes nothing.
-use mathlib.Core.Path.{◌∙◌}
 use mathlib.Core.List.{[]}
 use native.Mathlib.Omega.{arith}
 use borrow.Author.Rules.{rules}
 use Rattle.condition.specs.Meaning.{environment}
-use Rattle.engine.proofs.InWords.Places.{asked_there, number_there, behind_there}
 use Rattle.engine.proofs.InWords.Chains.{armed_past, armed_here, armed_behind, asked_next, asked_fits, asked_end}
 use Rattle.engine.proofs.InWords.Arming.{storing_start, storing_store, storing_past, storing_leave, storing_end}
 use Rattle.engine.proofs.event.arm.Goals as goal
@@ -15,8 +13,7 @@ loop-i-init c = (storing_start _ _ _ _, omega arith)
 
 pub overflow_add-evaluated : goal.overflow_add-evaluated
 overflow_add-evaluated c =
-    let p = c.args.plan.now in
-    let small = asked_fits _ _ _ _ _ _ c.loop-i.invariant.1 c.loop-i-test.true _ (c.broad.ensures.0 ∙ asked_there p _ _ c.thrice-from.ensures) _ c.holds-held.ensures.1 in
+    let small = asked_fits _ _ _ _ _ _ c.loop-i.invariant.1 c.loop-i-test.true _ c.broad.ensures.0 _ c.holds-held.ensures.1 in
     search (rules, small)
 
 pub loop-i-preserved : goal.loop-i-preserved
@@ -26,14 +23,13 @@ loop-i-preserved c =
     let (g, counted) = c.loop-i.invariant in
     let i = c.loop-i.i in
     let h = c.loop-i-test.true in
-    let there = c.thrice-from.ensures in
-    let e = c.broad.ensures.0 ∙ asked_there a.plan.now i _ there in
+    let e = c.broad.ensures.0 in
     let (held, much) = c.holds-held.ensures in
-    let next = c.broad-in-loop-i.ensures.0 ∙ behind_there a.plan.now i _ there in
+    let next = c.broad-in-loop-i.ensures.0 in
     let all = asked_next a.s.now a.plan.now E _ i _ counted h _ e _ much _ next in
     elim c.if-held.branch [
       | then-held w ↦ let t = armed_here a.s.now a.plan.now E i h _ e _ held _ next w.if-held.true in
-          elim w.if-count-lt-MOST_ARMED.branch [ then-count-lt-MOST_ARMED v ↦ rw (w.row-is, w.count-is, w.to-is, v.row-is, v.to-is) (storing_store _ _ _ _ _ _ _ _ g _ _ t _ _ (v.long.ensures.0 ∙ number_there a.plan.now i _ there) v.if-count-lt-MOST_ARMED.true, all) | else-count-lt-MOST_ARMED v ↦ rw (w.row-is, w.count-is, w.to-is, v.row-is, v.to-is) (storing_past _ _ _ _ _ _ _ _ g _ _ t _ v.if-count-lt-MOST_ARMED.false, all) ]
+          elim w.if-count-lt-MOST_ARMED.branch [ then-count-lt-MOST_ARMED v ↦ rw (w.row-is, w.count-is, w.to-is, v.row-is, v.to-is) (storing_store _ _ _ _ _ _ _ _ g _ _ t _ _ v.long.ensures.0 v.if-count-lt-MOST_ARMED.true, all) | else-count-lt-MOST_ARMED v ↦ rw (w.row-is, w.count-is, w.to-is, v.row-is, v.to-is) (storing_past _ _ _ _ _ _ _ _ g _ _ t _ v.if-count-lt-MOST_ARMED.false, all) ]
       | else-held w ↦ rw (w.row-is, w.count-is, w.to-is) (storing_leave _ _ _ _ _ _ _ _ g _ (armed_behind a.s.now a.plan.now E i h _ e _ held _ next w.if-held.false) _, all)
     ]
 

@@ -1,8 +1,6 @@
 -- `event::find` meets its contract. Assumes nothing.
-use mathlib.Core.Path.{◌∙◌}
 use borrow.Author.Rules.{rules}
 use Rattle.engine.proofs.InWords.Chains.{seeking_start, seeking_fits, seeking_found, seeking_next, seeking_end}
-use Rattle.engine.proofs.InWords.Places.{guard_there, gap_there}
 use Rattle.engine.proofs.event.find.Goals as goal
 
 pub loop-t-init : goal.loop-t-init
@@ -10,20 +8,14 @@ loop-t-init c = seeking_start _ _ _ _
 
 pub overflow_add-count : goal.overflow_add-count
 overflow_add-count c =
-    let p = c.args.plan.now in
-    let small = seeking_fits _ _ _ _ _ _ c.loop-t.invariant c.loop-t-test.true _ (c.broad.ensures.0 ∙ guard_there p _ _ c.four_times-at.ensures) _ _ c.holds-held.ensures in
+    let small = seeking_fits _ _ _ _ _ _ c.loop-t.invariant c.loop-t-test.true _ c.broad.ensures.0 _ _ c.holds-held.ensures in
     search (rules, small)
 
 pub returns-then-held : goal.returns-then-held
-returns-then-held c =
-    let p = c.args.plan.now in
-    seeking_found _ _ _ _ _ _ c.loop-t.invariant c.loop-t-test.true _ (c.broad.ensures.0 ∙ guard_there p _ _ c.four_times-at.ensures) _ _ c.holds-held.ensures c.if-held.true
+returns-then-held c = seeking_found _ _ _ _ _ _ c.loop-t.invariant c.loop-t-test.true _ c.broad.ensures.0 _ _ c.holds-held.ensures c.if-held.true
 
 pub loop-t-preserved : goal.loop-t-preserved
-loop-t-preserved c =
-    let p = c.args.plan.now in
-    let there = c.four_times-at.ensures in
-    seeking_next _ _ _ _ _ _ c.loop-t.invariant c.loop-t-test.true _ (c.broad.ensures.0 ∙ guard_there p _ _ there) _ _ c.holds-held.ensures c.if-held.false _ (c.broad-in-loop-t.ensures.0 ∙ gap_there p _ _ there)
+loop-t-preserved c = seeking_next _ _ _ _ _ _ c.loop-t.invariant c.loop-t-test.true _ c.broad.ensures.0 _ _ c.holds-held.ensures c.if-held.false _ c.broad-in-loop-t.ensures.0
 
 pub returns : goal.returns
 returns c = seeking_end _ _ _ _ _ _ c.loop-t.invariant c.loop-t-test.false

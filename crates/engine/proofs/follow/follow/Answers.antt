@@ -1,6 +1,6 @@
 -- `follow::follow` meets its contract. Assumes nothing.
 use mathlib.Core.Path.{ap, ◌∙◌}
-use Prim.Native.Nat.{ℕ, ◌+◌, ◌*◌, ◌<◌}
+use Prim.Native.Nat.{◌+◌, ◌*◌, ◌<◌}
 use native.Mathlib.Omega.{arith}
 use borrow.Author.Rules.{rules}
 use Rattle.sheet.specs.Log.{record_size}
@@ -16,7 +16,7 @@ loop-at-init c =
     record {
       following = follow_start (works a.s.now a.plan.now) a.programs a.log.now p.0 _ (started_words a.s.now _ c.started-run.ensures _ c.initial-variables.ensures) _ there c.place-end.ensures.1;
       many = c.wide-count.ensures.0;
-      each = ap (λ (k : ℕ). 4 + k) c.four_times-size.ensures ∙ ap record_size c.wide-count.ensures.0;
+      each = ap record_size c.wide-count.ensures.0;
       whole = there ∙ log_length a.programs a.log.now p.0;
       few = omega (arith, c.wide-count.ensures.0, p.1);
       clear = clear_start _;

@@ -12,4 +12,4 @@ pub returns : goal.returns
 returns c =
     let a = c.args in
     let long : length a.row.now ≡ 256 = search rules in
-    arms_there_lem a.row.now a.i _ c.sixteen_times-at.ensures c.if-i-lt-CALLS.true long _ c.four-count.ensures.0 _ _ _ _ c.below.ensures c.below-2.ensures c.below-3.ensures c.below-4.ensures
+    arms_there_lem a.row.now a.i c.if-i-lt-CALLS.true long _ c.four-count.ensures.0 _ _ _ _ c.below.ensures c.below-2.ensures c.below-3.ensures c.below-4.ensures

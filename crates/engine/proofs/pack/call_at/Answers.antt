@@ -6,4 +6,4 @@ pub returns-else-i-lt-CALLS : goal.returns-else-i-lt-CALLS
 returns-else-i-lt-CALLS c = no_call_there _ _ _ c.if-i-lt-CALLS.false _ c.no_call.ensures
 
 pub returns : goal.returns
-returns c = call_there _ _ _ _ c.sixteen_times-at.ensures c.if-i-lt-CALLS.true _ _ c.front.ensures c.eight.ensures
+returns c = call_there _ _ _ c.if-i-lt-CALLS.true _ _ c.front.ensures c.eight.ensures

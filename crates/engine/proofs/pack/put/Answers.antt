@@ -13,7 +13,7 @@ returns-then-i-lt-CALLS c =
     let four : length a.arms.numbers ≡ 4 = search rules in
     let number = c.long-number.ensures in
     let unit = c.word-unit.ensures in
-    (put_there a.row.now a.i a.call a.arms _ c.sixteen_times-at.ensures c.if-i-lt-CALLS.true _ _ _ _ _ _ _ number.0 unit.0 c.word.ensures.0 c.word-then-i-lt-CALLS.ensures.0 c.word-then-i-lt-CALLS-2.ensures.0 c.word-then-i-lt-CALLS-3.ensures.0 c.word-then-i-lt-CALLS-4.ensures.0 four eight, omega (arith, number), omega (arith, unit), eight, four)
+    (put_there a.row.now a.i a.call a.arms c.if-i-lt-CALLS.true _ _ _ _ _ _ _ number.0 unit.0 c.word.ensures.0 c.word-then-i-lt-CALLS.ensures.0 c.word-then-i-lt-CALLS-2.ensures.0 c.word-then-i-lt-CALLS-3.ensures.0 c.word-then-i-lt-CALLS-4.ensures.0 four eight, omega (arith, number), omega (arith, unit), eight, four)
 
 pub returns-else-i-lt-CALLS : goal.returns-else-i-lt-CALLS
 returns-else-i-lt-CALLS c =

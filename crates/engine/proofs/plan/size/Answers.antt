@@ -1,5 +1,5 @@
 -- `plan::size` meets its contract. Assumes nothing.
-use mathlib.Core.Path.{◌≡◌, ap, ◌∙◌}
+use mathlib.Core.Path.{ap, ◌∙◌}
 use Prim.Native.Nat.{ℕ, ◌+◌, ◌*◌}
 use native.Mathlib.Omega.{arith}
 use Rattle.sheet.proofs.Readers.Loops.{byte_past}
@@ -8,6 +8,4 @@ use Rattle.engine.proofs.plan.size.Goals as goal
 pub returns-then-paired : goal.returns-then-paired
 returns-then-paired c =
     let a = c.args in
-    let n = c.word-n.result in
-    let twice : 7 + n + n ≡ 7 + 2 * n = omega arith in
-    (rw c.if-paired.true (twice ∙ ap (λ (m : ℕ). 7 + 2 * m) (c.word-n.ensures.0 ∙ c.byte_at.ensures ∙ byte_past a.s.now a.at 6)), omega (arith, c.word-n.ensures.1))
+    (rw c.if-paired.true (ap (λ (m : ℕ). 7 + 2 * m) (c.word.ensures.0 ∙ c.byte_at.ensures ∙ byte_past a.s.now a.at 6)), omega (arith, c.word.ensures.1))

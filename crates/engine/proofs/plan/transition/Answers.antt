@@ -5,5 +5,5 @@ use Rattle.engine.proofs.plan.transition.Goals as goal
 pub returns : goal.returns
 returns c =
     let a = c.args in
-    transition_words_lem a.s.now a.conditions.now a.plan.now a.i a.at _ c.four_times-to.ensures a.actions.now _ c.transition_at-t.ensures _ c.key_of-key.ensures.0
+    transition_words_lem a.s.now a.conditions.now a.plan.now a.i a.at a.actions.now _ c.transition_at-t.ensures _ c.key_of-key.ensures.0
     _ c.behind-gap.ensures _ c.text.ensures _ c.action.ensures _ c.short.ensures.0

@@ -4,7 +4,7 @@ use Rattle.engine.proofs.Plans.Linking.{tripling_start, tripling_few, tripling_n
 use Rattle.engine.proofs.plan.triples.Goals as goal
 
 pub loop-i-init : goal.loop-i-init
-loop-i-init c = tripling_start _ _ _ _ _ _ c.four_times.ensures
+loop-i-init c = tripling_start _ _ _ _ _
 
 pub overflow_sub-here : goal.overflow_sub-here
 overflow_sub-here c = omega (arith, c.loop-i.invariant.there, c.loop-i-test.true)

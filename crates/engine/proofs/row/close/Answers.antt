@@ -7,7 +7,7 @@ use Rattle.engine.proofs.InWords.Rowing.{closing_start, closing_end, closing_nex
 use Rattle.engine.proofs.row.close.Goals as goal
 
 pub loop-from-init : goal.loop-from-init
-loop-from-init c = closing_start _ _ _ _ c.sixteen_times-end.ensures
+loop-from-init c = closing_start _ _ _
 
 pub loop-from-preserved : goal.loop-from-preserved
 loop-from-preserved c =

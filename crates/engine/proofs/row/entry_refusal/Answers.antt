@@ -2,11 +2,11 @@
 use Rattle.engine.proofs.InWords.Refused.{entry_again, entry_free, entry_full}
 use Rattle.engine.proofs.row.entry_refusal.Goals as goal
 
-pub returns-then-place-sixteen_times : goal.returns-then-place-sixteen_times
-returns-then-place-sixteen_times c = entry_again _ _ _ c.sixteen_times.ensures c.if-place-sixteen_times.true
+pub returns-then-place-opened : goal.returns-then-place-opened
+returns-then-place-opened c = entry_again _ _ c.if-place-opened.true
 
 pub returns-then-opened-lt-CALLS : goal.returns-then-opened-lt-CALLS
-returns-then-opened-lt-CALLS c = entry_free _ _ _ c.sixteen_times.ensures c.if-place-sixteen_times.false c.if-opened-lt-CALLS.true
+returns-then-opened-lt-CALLS c = entry_free _ _ c.if-place-opened.false c.if-opened-lt-CALLS.true
 
 pub returns-else-opened-lt-CALLS : goal.returns-else-opened-lt-CALLS
-returns-else-opened-lt-CALLS c = entry_full _ _ _ c.sixteen_times.ensures c.if-place-sixteen_times.false c.if-opened-lt-CALLS.false
+returns-else-opened-lt-CALLS c = entry_full _ _ c.if-place-opened.false c.if-opened-lt-CALLS.false

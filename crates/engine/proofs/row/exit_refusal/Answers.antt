@@ -4,13 +4,13 @@ use Rattle.engine.proofs.InWords.Refused.{exit_free, exit_other, exit_unknown}
 use Rattle.engine.proofs.row.exit_refusal.Goals as goal
 
 pub bounds-row-place : goal.bounds-row-place
-bounds-row-place c = omega (arith, c.requires.1 (omega (arith, c.sixteen_times.ensures, c.if-place-sixteen_times.true)))
+bounds-row-place c = omega (arith, c.requires.1 c.if-place-opened.true)
 
 pub returns-then-row-place : goal.returns-then-row-place
-returns-then-row-place c = exit_free _ _ _ _ _ c.sixteen_times.ensures c.if-place-sixteen_times.true c.if-row-place.true
+returns-then-row-place c = exit_free _ _ _ _ c.if-place-opened.true c.if-row-place.true
 
 pub returns-else-row-place : goal.returns-else-row-place
-returns-else-row-place c = exit_other _ _ _ _ _ c.sixteen_times.ensures c.if-place-sixteen_times.true c.if-row-place.false
+returns-else-row-place c = exit_other _ _ _ _ c.if-place-opened.true c.if-row-place.false
 
-pub returns-else-place-sixteen_times : goal.returns-else-place-sixteen_times
-returns-else-place-sixteen_times c = exit_unknown _ _ _ _ _ c.sixteen_times.ensures c.if-place-sixteen_times.false
+pub returns-else-place-opened : goal.returns-else-place-opened
+returns-else-place-opened c = exit_unknown _ _ _ _ c.if-place-opened.false

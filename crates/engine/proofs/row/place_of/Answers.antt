@@ -6,10 +6,10 @@ pub loop-at-init : goal.loop-at-init
 loop-at-init c = looking_start _ _ _
 
 pub returns-then-row-at : goal.returns-then-row-at
-returns-then-row-at c = looking_found _ _ _ _ c.loop-at.invariant _ c.sixteen_times-end.ensures c.loop-at-test.true c.if-row-at.true
+returns-then-row-at c = looking_found _ _ _ _ c.loop-at.invariant c.loop-at-test.true c.if-row-at.true
 
 pub loop-at-preserved : goal.loop-at-preserved
-loop-at-preserved c = looking_more _ _ _ _ c.loop-at.invariant _ c.sixteen_times-end.ensures c.loop-at-test.true c.if-row-at.false
+loop-at-preserved c = looking_more _ _ _ _ c.loop-at.invariant c.loop-at-test.true c.if-row-at.false
 
 pub returns : goal.returns
-returns c = looking_end _ _ _ _ c.loop-at.invariant _ c.sixteen_times-end.ensures c.loop-at-test.false
+returns c = looking_end _ _ _ _ c.loop-at.invariant c.loop-at-test.false

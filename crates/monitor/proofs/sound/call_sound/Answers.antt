@@ -1,10 +1,12 @@
 -- `sound::call_sound` meets its contract. Assumes nothing.
-use Rattle.monitor.proofs.SoundTests.Checks.{call_tested_lem}
+use mathlib.Core.Path.{◌≡◌}
+use borrow.Author.Rules.{rules}
+use lib.ListN.{length}
+use Rattle.monitor.proofs.SoundTests.Checks.{call_is}
 use Rattle.monitor.proofs.sound.call_sound.Goals as goal
 
 pub returns : goal.returns
 returns c =
     let a = c.args in
-    let armed = c.armed_in-count.ensures in
-    let below = c.unit_below.ensures in
-    (call_tested_lem a.h a.held a.call a.arms _ below.0 _ armed.0 _ c.rising.ensures _ c.of_unit.ensures _ c.of_one_state.ensures, below.1, armed.1)
+    let long : length a.arms.triples ≡ 4 = search rules in
+    call_is a.s.now a.t c.requires a.call a.arms long _ c.unit_below.ensures _ c.wide-count.ensures _ c.rising.ensures _ c.of_unit.ensures _ c.of_one_state.ensures

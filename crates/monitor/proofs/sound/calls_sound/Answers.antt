@@ -6,33 +6,18 @@ use lib.ListN.{length}
 use Rattle.sheet.specs.Decode.{sheet_of}
 use Rattle.monitor.specs.Sound.{call_sound}
 use Rattle.monitor.specs.Padded.{unpad_armed}
-use Rattle.monitor.proofs.SoundTests.Checks.{last_few, call_is}
 use Rattle.monitor.proofs.SoundTests.Testing.{pair_end, pair_far, pair_next, pair_fails}
 use Rattle.monitor.proofs.sound.calls_sound.Goals as goal
-
-pub returns-then-opened-eq0 : goal.returns-then-opened-eq0
-returns-then-opened-eq0 c =
-    let a = c.args in
-    let long : length a.calls ≡ 16 = search rules in
-    let same : length a.arms ≡ 16 = search rules in
-    pair_end (unpad_armed a.t.header.programs) (call_sound (sheet_of a.s.now)) a.calls a.arms (long ∙ sym same) a.opened 0 _ refl (omega (arith, c.if-opened-eq0.true))
-
-pub owners_of-held-requires : goal.owners_of-held-requires
-owners_of-held-requires c =
-    let b = c in
-    last_few b.args.s.now b.args.t b.requires
 
 pub loop-i-init : goal.loop-i-init
 loop-i-init c = refl
 
 pub returns-else-call_sound : goal.returns-else-call_sound
 returns-else-call_sound c =
-    let b = c in
-    let a = b.args in
+    let a = c.args in
     let long : length a.calls ≡ 16 = search rules in
     let same : length a.arms ≡ 16 = search rules in
-    let e = call_is a.s.now a.t b.requires _ c.owners_of-held.ensures _ _ _ c.call_sound.ensures in
-    pair_fails (unpad_armed a.t.header.programs) (call_sound (sheet_of a.s.now)) a.calls a.arms (long ∙ sym same) a.opened _ _ c.loop-i.invariant _ _ c.loop-i-test.true (omega (arith, c.if-i-lt-CALLS.true)) (sym e ∙ c.if-call_sound.false)
+    pair_fails (unpad_armed a.t.header.programs) (call_sound (sheet_of a.s.now)) a.calls a.arms (long ∙ sym same) a.opened _ _ c.loop-i.invariant _ _ c.loop-i-test.true (omega (arith, c.if-i-lt-CALLS.true)) (sym c.call_sound.ensures ∙ c.if-call_sound.false)
 
 pub returns-else-i-lt-CALLS : goal.returns-else-i-lt-CALLS
 returns-else-i-lt-CALLS c =
@@ -43,12 +28,10 @@ returns-else-i-lt-CALLS c =
 
 pub loop-i-preserved : goal.loop-i-preserved
 loop-i-preserved c =
-    let b = c in
-    let a = b.args in
+    let a = c.args in
     let long : length a.calls ≡ 16 = search rules in
     let same : length a.arms ≡ 16 = search rules in
-    let e = call_is a.s.now a.t b.requires _ c.owners_of-held.ensures _ _ _ c.call_sound.ensures in
-    pair_next (unpad_armed a.t.header.programs) (call_sound (sheet_of a.s.now)) a.calls a.arms (long ∙ sym same) a.opened _ _ c.loop-i.invariant _ _ c.loop-i-test.true (omega (arith, c.if-i-lt-CALLS.true)) (sym e ∙ c.if-call_sound.true)
+    pair_next (unpad_armed a.t.header.programs) (call_sound (sheet_of a.s.now)) a.calls a.arms (long ∙ sym same) a.opened _ _ c.loop-i.invariant _ _ c.loop-i-test.true (omega (arith, c.if-i-lt-CALLS.true)) (sym c.call_sound.ensures ∙ c.if-call_sound.true)
 
 pub returns : goal.returns
 returns c =

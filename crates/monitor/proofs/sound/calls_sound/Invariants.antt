@@ -11,8 +11,8 @@ use Rattle.monitor.proofs.sound.calls_sound.Given as goal
 
 abbrev pub invariant-loop-i : goal.invariant-loop-i
 invariant-loop-i l =
-    every (call_sound (sheet_of l.s)) (drop l.i (beside (unpad_armed l.h.programs) (take l.opened l.calls) (take l.opened l.arms)))
-    ≡ every (call_sound (sheet_of l.s)) (beside (unpad_armed l.h.programs) (take l.opened l.calls) (take l.opened l.arms))
+    every (call_sound (sheet_of l.s)) (drop l.i (beside (unpad_armed l.t.header.programs) (take l.opened l.calls) (take l.opened l.arms)))
+    ≡ every (call_sound (sheet_of l.s)) (beside (unpad_armed l.t.header.programs) (take l.opened l.calls) (take l.opened l.arms))
 
 abbrev pub decreases-loop-i : goal.decreases-loop-i
 decreases-loop-i l = l.opened - l.i

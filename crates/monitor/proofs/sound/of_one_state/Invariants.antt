@@ -6,13 +6,14 @@ use Prim.Native.Nat.{ℕ, ◌-◌}
 use lib.Dec.{eqb}
 use lib.ListN.{get_or, take, drop}
 use Rattle.sheet.specs.Table.{every}
+use Rattle.monitor.specs.Walk.{triple_at}
 use Rattle.monitor.proofs.sound.of_one_state.Given as goal
 
-abbrev pub test : List ℕ → List ℕ → ℕ → Bool
-test states triples i = eqb (get_or states i 0) (get_or states (get_or triples 0 0) 0)
+abbrev pub test : List ℕ → ℕ → List ℕ → ℕ → Bool
+test s at triples i = eqb (triple_at s at i).state (triple_at s at (get_or triples 0 0)).state
 
 abbrev pub invariant-loop-i : goal.invariant-loop-i
-invariant-loop-i l = every (test l.states l.triples) (drop l.i (take l.count l.triples)) ≡ every (test l.states l.triples) (take l.count l.triples)
+invariant-loop-i l = every (test l.s l.at l.triples) (drop l.i (take l.count l.triples)) ≡ every (test l.s l.at l.triples) (take l.count l.triples)
 
 abbrev pub decreases-loop-i : goal.decreases-loop-i
 decreases-loop-i l = l.count - l.i

@@ -1,11 +1,6 @@
 -- `sound::sound` meets its contract. Assumes nothing.
-use Rattle.network.proofs.SoundTests.Checks.{last_few, sound_is}
+use Rattle.network.proofs.SoundTests.Checks.{sound_is}
 use Rattle.network.proofs.sound.sound.Goals as goal
-
-pub on_calls-requires : goal.on_calls-requires
-on_calls-requires c =
-    let start = c in
-    last_few start.args.s.now start.args.t start.requires
 
 pub returns : goal.returns
 returns c =

@@ -1,6 +1,5 @@
 -- `log::read` meets its contract. Assumes nothing.
-use mathlib.Core.Path.{ap, ◌∙◌}
-use Prim.Native.Nat.{ℕ, ◌+◌}
+use mathlib.Core.Path.{◌∙◌}
 use Rattle.sheet.proofs.Readers.Logs.{log_16, log_long, log_17, log_18, log_accepted}
 use Rattle.sheet.proofs.log.read.Goals as goal
 
@@ -14,7 +13,7 @@ pub overflow_sub-rest : goal.overflow_sub-rest
 overflow_sub-rest c = log_long c.args.programs c.args.s.now _ _ _ (c.place-said.ensures.0 ∙ c.word.ensures) c.number-version.ensures.0 c.number-lent.ensures.0 c.if-s-said.true
 
 pub returns-then-rest-size-eq0 : goal.returns-then-rest-size-eq0
-returns-then-rest-size-eq0 c = log_accepted _ _ _ _ _ (c.place-said.ensures.0 ∙ c.word.ensures) c.number-version.ensures.0 c.number-lent.ensures.0 c.if-s-said.true c.if-lent-programs.true _ (ap (λ (n : ℕ). 4 + n) c.four_times-size.ensures) c.if-rest-size-eq0.true
+returns-then-rest-size-eq0 c = log_accepted _ _ _ _ _ (c.place-said.ensures.0 ∙ c.word.ensures) c.number-version.ensures.0 c.number-lent.ensures.0 c.if-s-said.true c.if-lent-programs.true c.if-rest-size-eq0.true
 
 pub returns-else-rest-size-eq0 : goal.returns-else-rest-size-eq0
-returns-else-rest-size-eq0 c = log_18 _ _ _ _ _ (c.place-said.ensures.0 ∙ c.word.ensures) c.number-version.ensures.0 c.number-lent.ensures.0 c.if-s-said.true c.if-lent-programs.true _ (ap (λ (n : ℕ). 4 + n) c.four_times-size.ensures) c.if-rest-size-eq0.false
+returns-else-rest-size-eq0 c = log_18 _ _ _ _ _ (c.place-said.ensures.0 ∙ c.word.ensures) c.number-version.ensures.0 c.number-lent.ensures.0 c.if-s-said.true c.if-lent-programs.true c.if-rest-size-eq0.false

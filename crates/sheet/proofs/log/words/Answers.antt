@@ -1,18 +1,15 @@
 -- `log::words` meets its contract. Assumes nothing.
-use mathlib.Core.Path.{refl, ◌∙◌}
-use Rattle.sheet.specs.Decode.{word_form}
-use Rattle.sheet.proofs.Readers.Filling.{filled_start, filled_next, filled_past, filled_end}
-use Rattle.sheet.proofs.Readers.Logs.{word_here}
+use Rattle.sheet.proofs.Readers.Logs.{filled_start, filled_next, filled_past, filled_end}
 use Rattle.sheet.proofs.log.words.Goals as goal
 use Rattle.sheet.proofs.log.words.Goals.{else-i-lt8, then-i-lt8}
 
 pub loop-i-init : goal.loop-i-init
-loop-i-init c = filled_start word_form 4 8 (λ t. refl) _ _ _
+loop-i-init c = filled_start _ _ _
 
 pub loop-i-preserved : goal.loop-i-preserved
 loop-i-preserved c =
     let g = c.loop-i.invariant in
-    elim c.if-i-lt8.branch [ then-i-lt8 w ↦ rw w.out-is (filled_next word_form 4 8 (λ t. refl) _ _ _ _ _ _ g c.loop-i-test.true _ (w.word.ensures ∙ word_here c.args.s.now c.loop-i.here)) | else-i-lt8 w ↦ rw w.out-is (filled_past word_form 4 8 (λ t. refl) _ _ _ _ _ _ g c.loop-i-test.true w.if-i-lt8.false) ]
+    elim c.if-i-lt8.branch [ then-i-lt8 w ↦ rw w.out-is (filled_next _ _ _ _ _ _ g c.loop-i-test.true _ w.word.ensures) | else-i-lt8 w ↦ rw w.out-is (filled_past _ _ _ _ _ _ g c.loop-i-test.true w.if-i-lt8.false) ]
 
 pub returns : goal.returns
-returns c = filled_end word_form 4 8 (λ t. refl) _ _ _ _ _ _ c.loop-i.invariant c.loop-i-test.false
+returns c = filled_end _ _ _ _ _ _ c.loop-i.invariant c.loop-i-test.false

@@ -1,7 +1,8 @@
 -- `ranged::pair_ranged` meets its contract. Assumes nothing.
-use Rattle.sheet.specs.Walk.{pair_fits}
+use Rattle.sheet.proofs.Readers.Found.{pair_found}
 use Rattle.sheet.proofs.ranged.pair_ranged.Goals as goal
 
 pub returns : goal.returns
-unfolding pair_fits
-returns c = rw (c.byte-unit.ensures, c.wide-k.ensures.0)
+returns c =
+    let a = c.args in
+    pair_found a.s.now a.p a.t a.n a.last a.templates _ _ c.wide-k.ensures.0 c.byte-unit.ensures

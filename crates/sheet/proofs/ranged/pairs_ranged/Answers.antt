@@ -1,7 +1,7 @@
 -- `ranged::pairs_ranged` meets its contract. Assumes nothing.
 use mathlib.Core.Path.{refl, ap, ◌∙◌}
 use native.Mathlib.Omega.{arith}
-use Rattle.sheet.specs.Walk.{pair_fits}
+use Rattle.sheet.specs.Reading.{pair_ranged}
 use Rattle.sheet.proofs.Readers.Loops.{going_start, going_tested, sized_next}
 use Rattle.sheet.proofs.ranged.pairs_ranged.Goals as goal
 
@@ -11,7 +11,7 @@ loop-left-init c = going_start _ _ _ _ _ _
 pub loop-left-preserved : goal.loop-left-preserved
 loop-left-preserved c =
     sized_next _ _ _ _ _ _ _ _ _ c.loop-left.invariant c.loop-left-test.true _
-    (c.pair_ranged-ok.ensures ∙ ap (pair_fits _ _ _) c.pair.ensures)
+    (c.pair_ranged-ok.ensures ∙ ap (pair_ranged _ _ _) c.pair.ensures)
     2
     (refl)
     (omega arith)

@@ -1,11 +1,12 @@
 -- `ranged::pairs_ranged` meets its contract. Assumes nothing.
-use Rattle.sheet.specs.Decode.{pair_form}
-use Rattle.sheet.specs.Walk.{pair_fits}
+use Rattle.sheet.specs.Decode.{pair_form, template_form}
+use Rattle.sheet.specs.Table.{table}
+use Rattle.sheet.specs.Reading.{pair_ranged}
 use Rattle.sheet.proofs.Readers.Loops.{Going}
 use Rattle.sheet.proofs.ranged.pairs_ranged.Given as goal
 
 abbrev pub invariant-loop-left : goal.invariant-loop-left
-invariant-loop-left l = Going (pair_fits l.counts l.units l.t) pair_form 2 l.n l.s l.at l.ok l.place l.left
+invariant-loop-left l = Going (pair_ranged l.counts (table template_form l.templates l.s l.last) l.t) pair_form 2 l.n l.s l.at l.ok l.place l.left
 
 abbrev pub decreases-loop-left : goal.decreases-loop-left
 decreases-loop-left l = l.left

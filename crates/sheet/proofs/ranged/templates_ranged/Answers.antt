@@ -1,12 +1,20 @@
 -- `ranged::templates_ranged` meets its contract. Assumes nothing.
-use Rattle.sheet.proofs.Readers.Units.{judging_start, judging_next, judging_end}
+use mathlib.Core.Path.{refl, ap, ◌∙◌}
+use native.Mathlib.Omega.{arith}
+use Rattle.sheet.specs.Reading.{template_ranged}
+use Rattle.sheet.proofs.Readers.Loops.{going_start, going_tested, sized_next}
 use Rattle.sheet.proofs.ranged.templates_ranged.Goals as goal
 
-pub loop-i-init : goal.loop-i-init
-loop-i-init c = judging_start _ _ _ _
+pub loop-left-init : goal.loop-left-init
+loop-left-init c = going_start _ _ _ _ _ _
 
-pub loop-i-preserved : goal.loop-i-preserved
-loop-i-preserved c = judging_next _ _ _ _ _ _ _ _ c.loop-i.invariant c.loop-i-test.true _ c.template-t.ensures _ c.template_ranged-ok.ensures
+pub loop-left-preserved : goal.loop-left-preserved
+loop-left-preserved c =
+    sized_next _ _ _ _ _ _ _ _ _ c.loop-left.invariant c.loop-left-test.true _
+    (c.template_ranged-ok.ensures ∙ ap (template_ranged _) c.template.ensures)
+    2
+    (refl)
+    (omega arith)
 
 pub returns : goal.returns
-returns c = judging_end _ _ _ _ _ _ _ _ c.loop-i.invariant c.loop-i-test.false
+returns c = going_tested _ _ _ _ _ _ _ _ _ c.loop-left.invariant c.loop-left-test.false

@@ -2,7 +2,7 @@
 use mathlib.Core.Path.{refl, sym, ◌∙◌}
 use mathlib.Core.Bool.{true, false}
 use Rattle.sheet.specs.Reading.{network_layout}
-use Rattle.sheet.proofs.Readers.Refusals.{refuse_1, refuse_2, refuse_3, refuse_4, refuse_5, refuse_6, refuse_7, refuse_none, tabled_is, texts_there, few_network, few_templates}
+use Rattle.sheet.proofs.Readers.Refusals.{refuse_1, refuse_2, refuse_3, refuse_4, refuse_5, refuse_6, refuse_7, refuse_none, tabled_is, texts_there, few_network}
 use Rattle.sheet.proofs.read.network_refusal.Goals as goal
 
 pub returns-else-whole : goal.returns-else-whole
@@ -22,9 +22,6 @@ texts_formed-requires c = texts_there network_layout _ _ c.network_tables-t.ensu
 
 pub returns-else-texts_formed : goal.returns-else-texts_formed
 returns-else-texts_formed c = refuse_5 network_layout _ (sym c.whole.ensures ∙ c.if-whole.true) (sym c.version_is.ensures ∙ c.if-version_is.true) (sym c.network_counts.ensures ∙ c.if-network_counts.true) (tabled_is network_layout _ _ c.network_tables-t.ensures true c.if-t-s.true) (sym c.texts_formed.ensures ∙ c.if-texts_formed.false)
-
-pub network_ranged-requires : goal.network_ranged-requires
-network_ranged-requires c = (c.network_tables-t.ensures, few_templates c.args.s.now (sym c.network_counts.ensures ∙ c.if-network_counts.true))
 
 pub returns-else-network_ranged : goal.returns-else-network_ranged
 returns-else-network_ranged c = refuse_6 network_layout _ (sym c.whole.ensures ∙ c.if-whole.true) (sym c.version_is.ensures ∙ c.if-version_is.true) (sym c.network_counts.ensures ∙ c.if-network_counts.true) (tabled_is network_layout _ _ c.network_tables-t.ensures true c.if-t-s.true) (sym c.texts_formed.ensures ∙ c.if-texts_formed.true) (sym c.network_ranged.ensures ∙ c.if-network_ranged.false)

@@ -1,6 +1,7 @@
 -- `roles::paired_suit` meets its contract. Assumes nothing.
 use mathlib.Core.Path.{ap, ◌∙◌}
 use Prim.Native.Nat.{ℕ, ◌+◌, ◌*◌}
+use native.Mathlib.Omega.{arith}
 use Rattle.sheet.proofs.Readers.Loops.{going_start, going_tested, sized_next, byte_past}
 use Rattle.sheet.proofs.roles.paired_suit.Goals as goal
 
@@ -12,8 +13,8 @@ loop-left-preserved c =
     sized_next _ _ _ _ _ _ _ _ _ c.loop-left.invariant c.loop-left-test.true _
     c.one_paired_suits-ok.ensures
     _
-    (c.paired_size-here.ensures.0 ∙ ap (λ (m : ℕ). 7 + 2 * m) (c.number.ensures.0 ∙ byte_past c.args.s.now c.loop-left.here 6))
-    c.paired_size-here.ensures.1
+    (ap (λ (m : ℕ). 7 + 2 * m) (c.number.ensures.0 ∙ byte_past c.args.s.now c.loop-left.here 6))
+    (omega arith)
 
 pub returns : goal.returns
 returns c = going_tested _ _ _ _ _ _ _ _ _ c.loop-left.invariant c.loop-left-test.false

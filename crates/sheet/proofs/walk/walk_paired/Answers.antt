@@ -14,7 +14,7 @@ loop-left-init c = going_start _ _ _ _ _ _
 pub loop-left-preserved : goal.loop-left-preserved
 loop-left-preserved c =
     let here = c.number-pairs.ensures.0 ∙ byte_past c.args.s.now c.loop-left.place 6 in
-    sized_next _ _ _ _ _ _ _ _ _ c.loop-left.invariant c.loop-left-test.true _ (c.between-ok.ensures ∙ ap (between _ _) here) _ (c.paired_size-place.ensures.0 ∙ ap (λ (m : ℕ). 7 + 2 * m) here) c.paired_size-place.ensures.1
+    sized_next _ _ _ _ _ _ _ _ _ c.loop-left.invariant c.loop-left-test.true _ (c.between-ok.ensures ∙ ap (between _ _) here) _ (ap (λ (m : ℕ). 7 + 2 * m) here) (omega arith)
 
 pub returns : goal.returns
 returns c =

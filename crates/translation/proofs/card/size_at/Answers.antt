@@ -8,6 +8,5 @@ use Rattle.translation.proofs.card.size_at.Goals as goal
 pub returns : goal.returns
 returns c =
     let a = c.args in
-    let count = c.twice.ensures in
-    let byte = c.byte_at.ensures ∙ byte_past a.n.now a.place 6 in
-    (ap (λ (k : ℕ). 7 + k) count.0 ∙ ap (λ (k : ℕ). 7 + 2 * k) byte, omega (arith, count.1))
+    let count = c.wide.ensures in
+    (ap (λ (k : ℕ). 7 + 2 * k) (count.0 ∙ c.byte_at.ensures ∙ byte_past a.n.now a.place 6), omega (arith, count.1))

@@ -1,0 +1,16 @@
+-- `text::line` meets its contract. Assumes nothing.
+use borrow.Author.Rules.{rules}
+use Rattle.lines.proofs.Saying.{says_answer, says_refused, says_refused_at}
+use Rattle.lines.proofs.text.line.Goals as goal
+
+pub returns-in-Violated : goal.returns-in-Violated
+returns-in-Violated c = says_answer (search rules) c.violated.ensures
+
+pub returns-in-Clean : goal.returns-in-Clean
+returns-in-Clean c = says_answer (search rules) c.clean.ensures
+
+pub returns-in-Refused : goal.returns-in-Refused
+returns-in-Refused c = says_answer (search rules) (says_refused _ c.word.ensures.0 c.named-next.ensures c.text.ensures)
+
+pub returns-in-RefusedAt : goal.returns-in-RefusedAt
+returns-in-RefusedAt c = says_answer (search rules) (says_refused_at _ _ c.word-in-RefusedAt.ensures.0 c.named-next-in-RefusedAt.ensures c.named-next-in-RefusedAt-2.ensures c.text-in-RefusedAt.ensures)
