@@ -12,7 +12,7 @@ use std::time::Duration;
 
 fn program(place: &str) -> Program {
     let named = env::var_os("WATCH_PROGRAM").filter(|name| !name.is_empty());
-    let named = named.unwrap_or("../target/bin/watch".into());
+    let named = named.unwrap_or("../crates/watch/out/watch".into());
     Program {
         path: Path::new(env!("CARGO_MANIFEST_DIR")).join(named),
         place: places::directory(place),

@@ -279,7 +279,7 @@ fn build(name: &str, directory: &Path) -> Option<PathBuf> {
         .args(["-Werror", "-o"])
         .arg(&program)
         .arg(top.join(format!("embed/{name}.c")))
-        .arg(top.join("target/staticlib/libembed.a"))
+        .arg(top.join("crates/embed/out/libembed.a"))
         .output()
         .expect("cc starts");
     let said = String::from_utf8_lossy(&built.stderr);

@@ -277,6 +277,7 @@ fn unbuilt(name: &str) -> PathBuf {
     let place = directory(name);
     let bin = place.join("bin");
     fs::create_dir(&bin).unwrap();
+    fs::create_dir_all(place.join("crates/watch/out")).unwrap();
     // By another process, as in `script`.
     let mut copy = Command::new("cp");
     let copied = copy.arg(root().join("watch")).arg(&place).status();
@@ -313,17 +314,17 @@ fn without_rt_it_says_so() {
 fn it_builds_the_program_once() {
     let place = unbuilt("builds");
     let text = format!(
-        "echo \"$PWD: $*\"; cat; cd target/bin && cp '{REFERENCE}' watch && echo built >>../count"
+        "echo \"$PWD: $*\" >&2; cat; cp '{REFERENCE}' out/watch && echo built >>count"
     );
     script(&place.join("bin"), "rt", &text);
-    fs::create_dir_all(place.join("target/bin")).unwrap();
+    let home = place.join("crates/watch");
     let lines = "violated 2 state - triple 0 entry 1\nviolated 2 state - triple 0 entry 1\n";
     let output = watch_in(&place, &place.join("watch"));
     assert_answer(&output, 1, lines);
     let said = String::from_utf8_lossy(&output.stderr);
-    assert!(said.contains("rt check watch proves the program first"));
-    let place_name = place.canonicalize().unwrap();
-    assert!(said.contains(&format!("{}: check watch\n", place_name.display())));
+    assert!(said.contains("rt run proves the program first"));
+    let home_name = home.canonicalize().unwrap();
+    assert!(said.contains(&format!("{}: run\n", home_name.display())));
     let link = place.join("bin/linked");
     symlink(place.join("watch"), &link).unwrap();
     for script in [place.join("watch"), link] {
@@ -331,7 +332,7 @@ fn it_builds_the_program_once() {
         assert_answer(&output, 1, lines);
         assert!(output.stderr.is_empty());
     }
-    assert_eq!(fs::read(place.join("target/count")).unwrap(), b"built\n");
+    assert_eq!(fs::read(home.join("count")).unwrap(), b"built\n");
 }
 
 #[test]
@@ -341,7 +342,7 @@ fn a_build_that_fails() {
     let output = watch_in(&place, &place.join("watch"));
     assert_answer(&output, 3, "");
     let said = String::from_utf8_lossy(&output.stderr);
-    assert!(said.contains("rt check watch failed"));
+    assert!(said.contains("rt run failed"));
     // One that says that all is well, and leaves no program.
     script(&place.join("bin"), "rt", "exit 0");
     let output = watch_in(&place, &place.join("watch"));
