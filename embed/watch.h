@@ -3,7 +3,7 @@
  * it writes in either of its two forms.
  *
  * The functions are those of crates/embed, proved to answer as document 01 says for all bytes. Link
- * target/staticlib/libembed.a, which `rt staticlib embed` makes, for x86-64 Linux. They keep nothing
+ * crates/embed/out/libembed.a, which `rt lib` in crates/embed makes, for x86-64 Linux. They keep nothing
  * between calls and allocate nothing, so several threads may call them at once.
  *
  * What the caller owes, and what nothing checks:
