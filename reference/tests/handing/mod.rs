@@ -189,7 +189,7 @@ impl Program {
         let command = command.stdin(self.standard_input(input, way));
         let started = command.stdout(Stdio::piped()).stderr(Stdio::piped());
         let mut child = started.spawn().map_err(|error| {
-            format!("does not start: {error}; `rt check watch` builds target/bin/watch")
+            format!("does not start: {error}; `rt run` in crates/watch builds crates/watch/out/watch")
         })?;
         // None where the input is a file.
         let pipe = child.stdin.take();
