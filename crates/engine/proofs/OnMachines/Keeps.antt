@@ -52,12 +52,12 @@ module _ (M : Machine) (last : ℕ) (s p : List ℕ) (c : Carries M last s p) (�
         let shut : any (λ (d : Call). eqb d.number e.number) (map (λ (a : Armed). a.call) σ.calls) ≡ false = rw y at free.not_open in
         let room = entry_room free (eqb-true e.kind 0 y) in
         let longer = length-append σ.calls (new ∷ []) in
-        let Apart-more = distinct_more (map (λ (a : Armed). a.call.number) σ.calls) e.number h.apart (any_map (λ n. eqb n e.number) (λ (a : Armed). a.call.number) σ.calls ∙ sym (any_map (λ (d : Call). eqb d.number e.number) (λ (a : Armed). a.call) σ.calls) ∙ shut) in
+        let apart_more = distinct_more (map (λ (a : Armed). a.call.number) σ.calls) e.number h.apart (any_map (λ n. eqb n e.number) (λ (a : Armed). a.call.number) σ.calls ∙ sym (any_map (λ (d : Call). eqb d.number e.number) (λ (a : Armed). a.call) σ.calls) ∙ shut) in
         record {
           main = c.stays σ.configuration e h.main;
           variables = moved_variables M.common M.transitions σ.configuration e ∙ h.variables;
           few = omega (arith, longer, rw length-map at room);
-          apart = ap distinct (map-append (λ (a : Armed). a.call.number) σ.calls (new ∷ [])) ∙ Apart-more;
+          apart = ap distinct (map-append (λ (a : Armed). a.call.number) σ.calls (new ∷ [])) ∙ apart_more;
           kept = every_append (λ (a : Armed). eqb (length a.call.kept) M.common.programs) σ.calls (new ∷ []) ∙ and_both h.kept (and_both (eq-eqb _ _ free.values) refl);
           there = every_append (λ (a : Armed). every (λ i. ltb i last) a.armed) σ.calls (new ∷ []) ∙ and_both h.there (and_both (c.arms_there σ.configuration e) refl);
         }
