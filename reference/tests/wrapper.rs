@@ -8,6 +8,7 @@ use places::directory;
 use stand_ins::script;
 use std::fs;
 use std::io::Write;
+use std::ops::Deref;
 use std::os::unix::fs::{symlink, PermissionsExt};
 use std::path::{Path, PathBuf};
 use std::process::{Command, Output, Stdio};
@@ -19,6 +20,23 @@ const CLEAN: &str = "clean 0 state 0 open 0\nclean 0 state 0 open 0\n";
 const TOOLS: [&str; 10] = [
     "cat", "cp", "dirname", "head", "mktemp", "od", "readlink", "rm", "sh", "wc",
 ];
+
+/// A directory with links in it, which goes with its test: `rt ci` refuses links below a checkout.
+struct Linked(PathBuf);
+
+impl Deref for Linked {
+    type Target = PathBuf;
+
+    fn deref(&self) -> &PathBuf {
+        &self.0
+    }
+}
+
+impl Drop for Linked {
+    fn drop(&mut self) {
+        let _ = fs::remove_dir_all(&self.0);
+    }
+}
 
 fn root() -> PathBuf {
     Path::new(env!("CARGO_MANIFEST_DIR")).join("..")
@@ -254,7 +272,7 @@ fn too_long_is_for_the_program_to_say() {
 
 #[test]
 fn it_runs_anywhere_and_leaves_nothing_behind() {
-    let place = directory("elsewhere");
+    let place = Linked(directory("elsewhere"));
     symlink(
         root().join("watch").canonicalize().unwrap(),
         place.join("link"),
@@ -266,21 +284,21 @@ fn it_runs_anywhere_and_leaves_nothing_behind() {
     fs::copy(sample("A.sheet"), place.join("a sheet")).unwrap();
     fs::copy(sample("A-empty.log"), place.join("-log")).unwrap();
     let mut command = Command::new("./link");
-    let command = command.current_dir(&place).env("TMPDIR", &rooms);
+    let command = command.current_dir(&*place).env("TMPDIR", &rooms);
     let command = command.env("WATCH_PROGRAM", "program");
     assert_answer(&run(command.args(["a sheet", "-log"]), b""), 0, CLEAN);
     assert_eq!(fs::read_dir(&rooms).unwrap().count(), 0);
 }
 
 /// A copy of the script with nothing built, and a directory `bin` with what it needs but `rt`.
-fn unbuilt(name: &str) -> PathBuf {
-    let place = directory(name);
+fn unbuilt(name: &str) -> Linked {
+    let place = Linked(directory(name));
     let bin = place.join("bin");
     fs::create_dir(&bin).unwrap();
     fs::create_dir_all(place.join("crates/watch/out")).unwrap();
     // By another process, as in `script`.
     let mut copy = Command::new("cp");
-    let copied = copy.arg(root().join("watch")).arg(&place).status();
+    let copied = copy.arg(root().join("watch")).arg(&*place).status();
     assert!(copied.expect("cp starts").success());
     let path = std::env::var_os("PATH").unwrap();
     for tool in TOOLS {
