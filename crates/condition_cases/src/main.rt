@@ -91,17 +91,21 @@ fn answer<W: Write>(
             monitor.count,
             keeps,
         )?,
-        3 => {
-            print_bit(out, condition::is_condition(text, lent))?;
-            print_bit(out, condition::condition_has_entry(text, lent))?;
-            print_bit(out, condition::condition_has_monitor(text, lent))?;
-        }
-        _ => {
-            print_bit(out, condition::is_action(text, lent))?;
-            print_bit(out, condition::action_has_entry(text, lent))?;
-        }
+        _ => print_judged(out, kind, text, lent)?,
     }
     writeln!(out)
+}
+
+// What is found of a condition or of an action by its bytes alone.
+fn print_judged<W: Write>(out: &mut W, kind: usize, text: &[u8], lent: Lent) -> io::Result<()> {
+    if kind == 3 {
+        print_bit(out, condition::is_condition(text, lent))?;
+        print_bit(out, condition::condition_has_entry(text, lent))?;
+        print_bit(out, condition::condition_has_monitor(text, lent))
+    } else {
+        print_bit(out, condition::is_action(text, lent))?;
+        print_bit(out, condition::action_has_entry(text, lent))
+    }
 }
 
 fn print_condition<W: Write>(out: &mut W, c: CountedCondition) -> io::Result<()> {
