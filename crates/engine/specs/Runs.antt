@@ -6,7 +6,7 @@ use Rattle.sheet.specs.Table.{table, fit}
 use Rattle.sheet.specs.Decode.{word_form, sheet_of, network_of}
 use Rattle.sheet.specs.Reading.{reading, sheet_layout, network_layout}
 use Rattle.sheet.specs.Log.{Event}
-use Rattle.step.specs.declared.Outcome.TheVariants.{Open}
+use Rattle.std.specs.Prelude.{None}
 use Rattle.step.specs.Verdicts.{verdict_in}
 use Rattle.step.specs.Runs.{Offered, Ran, run_from, run_count_from}
 use Rattle.step.specs.Answers.{Ending, clean, clean_in, ran_on, ran_count}
@@ -20,7 +20,7 @@ offer_by s p σ e = offer_in s p σ (given_of e) (eight_of e)
 
 -- the words before the first event: the start state, the initial values, no calls
 unfoldable pub start_in : List ℕ → Words
-start_in s = words (record { main = byte s 7; opened = 0; position = 0; outcome = Open }) (replicate 256 0) (take most_variables (fit 8 0 (table word_form (byte s 6) s 14)))
+start_in s = words (record { main = byte s 7; opened = 0; position = 0; outcome = None }) (replicate 256 0) (take most_variables (fit 8 0 (table word_form (byte s 6) s 14)))
 
 unfoldable pub follow_in : List ℕ → List ℕ → List Event → Ran Words
 follow_in s p es = run_from (offer_by s p) (λ σ. verdict_in σ.run.outcome) 1 (start_in s) es

@@ -1,9 +1,12 @@
 -- What the operations on the bytes, the plan and the words of a state answer, for all of them. Where the plan is that of accepted bytes and the state is sound they
 -- are the definitions of Machine.
 use Rattle.std.specs.Prelude.{Bool, true, not, cond, ◌&&◌, List, [], ◌∷◌, map, ℕ, zero, suc, ◌+◌, ◌-◌, ◌*◌, ◌%◌, eqb, ltb, leb, length, get_or, set, take, drop}
+use Rattle.std.specs.Prelude.{Result, Ok, Err}
 use Rattle.std.proofs.Math.Option.{Option, none, some}
 use Rattle.std.proofs.lemmas.List.Edits.{sets}
 use Rattle.std.proofs.Math.Seq.{slice}
+use Rattle.refusal.specs.declared.Refusal.{Refusal}
+use Rattle.refusal.specs.Numbers as Numbers
 use Rattle.condition.specs.Meaning.{Environment, environment}
 use Rattle.condition.specs.Answer.{performed_on, action_outcome, action_counted, holds_from, count_from, text_from}
 use Rattle.sheet.specs.Table.{fit}
@@ -16,7 +19,23 @@ use Rattle.step.specs.Answers.{unless_taken}
 use Rattle.step.specs.Walk.{least_of, number_in}
 use Rattle.engine.specs.declared.Running.{Running}
 use Rattle.engine.specs.declared.Given.{Given}
+use Rattle.engine.specs.declared.Advanced.{Advanced}
 use Rattle.engine.specs.Plan.{units_in, programs_in, monitors_in, bad_in, cell_of, first_of, guard_of, action_of, target_of, gap_of, candidate_of, asked_of, number_of, behind_of, post_of}
+
+-- the number of the refusal, 0 where there is none
+abbrev pub code_of : Result (Unit {0}) Refusal → ℕ
+code_of (Ok done) = 0
+code_of (Err r) = Numbers.number_of r
+
+-- What an event was answered: the number of the refusal, or 0; what it counts, and what is beside the calls and variables then.
+pub record Answered : Type 0 where
+  pub answer : ℕ
+  pub count : ℕ
+  pub run : Running
+
+abbrev pub answered : Running → Result Advanced Refusal → Answered
+answered run (Ok a) = record { answer = 0; count = a.count; run = a.run }
+answered run (Err r) = record { answer = Numbers.number_of r; count = 0; run = run }
 
 -- a condition by the place of its text, 0 for `true`
 abbrev pub holds_by : List ℕ → ℕ → Environment → Bool

@@ -7,7 +7,7 @@ ghost use Rattle.step.specs.Calls.{most_calls, most_armed};
 ghost use Rattle.engine.specs.Plan.{cell_of, candidate_of, post_of};
 ghost use Rattle.engine.specs.Walk.{holds_by, count_by, found_in, found_count, armed_in, armed_count, low_in, low_count, main_after, variables_after, action_count_after, run_after, words, entered_in, exited_in, entered_count, exited_count};
 
-use crate::{Given, PLAN, Running, broad, long, place, row, wide};
+use crate::{Advanced, Given, PLAN, Running, broad, long, place, row, wide};
 use condition::{Held, VARIABLES};
 use step::{ARMED, VALUES};
 
@@ -19,13 +19,6 @@ const MOST_ARMED: u32 = ARMED as u32;
 pub(crate) struct Leaving {
     pub unit: u8,
     pub place: usize,
-}
-
-// What an event leaves beside the calls and variables, and how much was evaluated.
-#[derive(Clone, Copy)]
-pub(crate) struct Taken {
-    pub run: Running,
-    pub count: u32,
 }
 
 // The transition that is found, or 96, and how much was evaluated until it was.
@@ -58,7 +51,7 @@ pub(crate) fn entered(
     variables: &mut [u32; VARIABLES],
     given: Given,
     values: &[u32; VALUES],
-) -> Taken
+) -> Advanced
     requires { (run.opened < most_calls) × (run.position < 4294967295) }
     ensures variables_after { words result.run row.new variables.new ≡ entered_in s.now plan.now (words run row.old variables.old) given values.now }
     ensures count_value { result.count ≡ entered_count s.now plan.now (words run row.old variables.old) given values.now }
@@ -72,7 +65,7 @@ pub(crate) fn entered(
     row::put(row, at, given, run.position + 1, values);
     let asked = arm(s, plan, first, program, monitor, row, at);
     let to = moved(s, plan, found.transition, run.main, variables, values);
-    Taken {
+    Advanced {
         run: after(plan, run.position, to.main, run.opened + 1, 256, 0),
         count: found.count + asked + to.count,
     }
@@ -87,7 +80,7 @@ pub(crate) fn exited(
     variables: &mut [u32; VARIABLES],
     leaving: Leaving,
     values: &[u32; VALUES],
-) -> Taken
+) -> Advanced
     requires { (leaving.place + 16 ≤ 16 * run.opened) × (run.opened ≤ most_calls) × (run.position < 4294967295) }
     ensures variables_after { words result.run row.new variables.new ≡ exited_in s.now plan.now (words run row.old variables.old) leaving.unit leaving.place values.now }
     ensures count_value { result.count ≡ exited_count s.now plan.now (words run row.old variables.old) leaving.unit leaving.place values.now }
@@ -100,7 +93,7 @@ pub(crate) fn exited(
     let cell = cell_of(run.main, leaving.unit);
     let found = find(s, plan, broad(plan[9 + 2 * cell]), program, monitor);
     let to = moved(s, plan, found.transition, run.main, variables, values);
-    Taken {
+    Advanced {
         run: after(
             plan,
             run.position,

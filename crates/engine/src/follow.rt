@@ -13,7 +13,7 @@ ghost use Rattle.engine.specs.Runs.{start_in, follow_in, follow_count, ends_by, 
 
 use crate::{Given, PLAN, Running, advance, place, wide};
 use condition::VARIABLES;
-use step::{Counted, Outcome, RunAnswer, VALUES};
+use step::{Counted, RunAnswer, VALUES};
 
 // Follows the records of a log, of so many values each, from the state before the first event.
 pub(crate) fn follow(s: &[u8], plan: &[u16; PLAN], log: &[u8], programs: u8) -> Counted
@@ -34,19 +34,17 @@ pub(crate) fn follow(s: &[u8], plan: &[u16; PLAN], log: &[u8], programs: u8) -> 
     while at < end {
         let given = given_at(log, at, programs);
         read_values(log, at + 4, count, &mut values);
-        let next = advance(s, plan, run, &mut row, &mut variables, given, &values);
         i += 1;
-        if next.answer == 0 {} else {
-            return counted(RunAnswer::RefusedAt(next.answer, i), total);
-        }
+        let next = match advance(s, plan, run, &mut row, &mut variables, given, &values) {
+            Ok(next) => next,
+            Err(reason) => {
+                return counted(RunAnswer::RefusedAt(reason, i), total);
+            }
+        };
         total += double(next.count);
         run = next.run;
-        let outcome = run.outcome;
-        match outcome {
-            Outcome::Judged(v) => {
-                return counted(RunAnswer::Violated(v), total);
-            }
-            Outcome::Open => {}
+        if let Some(v) = run.outcome {
+            return counted(RunAnswer::Violated(v), total);
         }
         at += size;
     }
@@ -74,7 +72,7 @@ fn started(s: &[u8]) -> Running
         main: h.start,
         opened: 0,
         position: 0,
-        outcome: Outcome::Open,
+        outcome: None,
     }
 }
 

@@ -12,11 +12,11 @@ ghost use Rattle.step.specs.Answers.{run_paper, unless_taken, unless_refused, ra
 ghost use Rattle.engine.specs.Prepared.{sheet_into, network_into};
 ghost use Rattle.engine.specs.Runs.{follow_in, follow_count, ends_by, sheet_run, sheet_count, network_run, network_count};
 ghost use Rattle.step.specs.declared.RunAnswer.TheVariants as run;
-ghost use Rattle.engine.specs.Walk.{words, offer_in, event_count_in};
+ghost use Rattle.engine.specs.Walk.{words, answered, offer_in, event_count_in};
 
 use condition::VARIABLES;
-use sheet::{LogReading, Reading};
-use step::{CALLS, Counted, Outcome, RunAnswer, VALUES};
+use refusal::Refusal;
+use step::{CALLS, Counted, RunAnswer, VALUES, Verdict};
 
 mod event;
 mod follow;
@@ -39,7 +39,7 @@ pub struct Running {
     pub main: u8,
     pub opened: u8,
     pub position: u32,
-    pub outcome: Outcome,
+    pub outcome: Option<Verdict>,
 }
 
 // An event, and how many values come with it.
@@ -51,41 +51,32 @@ pub struct Given {
     pub count: usize,
 }
 
-// What an event comes to: 0 where it is taken, or the refusal's number; how much was evaluated; and
-// what is beside the calls and variables.
+// What an event that is taken comes to: how much was evaluated, and what is beside the calls and
+// variables.
 #[derive(Clone, Copy)]
 pub struct Advanced {
-    pub answer: u8,
     pub count: u32,
     pub run: Running,
 }
 
 // Reads a sheet and puts it into a plan; what is refused leaves the plan as it was.
-pub fn prepare_sheet(s: &[u8], plan: &mut [u16; PLAN]) -> Reading
+pub fn prepare_sheet(s: &[u8], plan: &mut [u16; PLAN]) -> Result<(), Refusal>
     ensures result_value { reading_paper result ≡ answer (reading sheet_layout s.now) }
     ensures plan_after { plan.new ≡ unless_taken (reading sheet_layout s.now) plan.old (sheet_into s.now plan.old) }
 {
-    match sheet::read_sheet(s) {
-        Reading::Accepted => {
-            plan::of_sheet(s, plan);
-            Reading::Accepted
-        }
-        Reading::Refused(n) => Reading::Refused(n),
-    }
+    sheet::read_sheet(s)?;
+    plan::of_sheet(s, plan);
+    Ok(())
 }
 
 // The same of a network.
-pub fn prepare_network(s: &[u8], plan: &mut [u16; PLAN]) -> Reading
+pub fn prepare_network(s: &[u8], plan: &mut [u16; PLAN]) -> Result<(), Refusal>
     ensures result_value { reading_paper result ≡ answer (reading network_layout s.now) }
     ensures plan_after { plan.new ≡ unless_taken (reading network_layout s.now) plan.old (network_into s.now plan.old) }
 {
-    match sheet::read_network(s) {
-        Reading::Accepted => {
-            plan::of_network(s, plan);
-            Reading::Accepted
-        }
-        Reading::Refused(n) => Reading::Refused(n),
-    }
+    sheet::read_network(s)?;
+    plan::of_network(s, plan);
+    Ok(())
 }
 
 // Runs a log from the fresh state of a sheet.
@@ -94,8 +85,8 @@ pub fn run_sheet(s: &[u8], log: &[u8]) -> Counted
 {
     let mut plan = [ABSENT; PLAN];
     match prepare_sheet(s, &mut plan) {
-        Reading::Accepted => run_planned(s, &plan, log),
-        Reading::Refused(n) => unread(n),
+        Ok(()) => run_planned(s, &plan, log),
+        Err(reason) => unread(reason),
     }
 }
 
@@ -105,11 +96,11 @@ pub fn run_network(s: &[u8], log: &[u8]) -> Counted
 {
     let mut plan = [ABSENT; PLAN];
     match prepare_network(s, &mut plan) {
-        Reading::Accepted => {
+        Ok(()) => {
             let size = length_said(s);
             run_planned(s, &plan, log)
         }
-        Reading::Refused(n) => unread(n),
+        Err(reason) => unread(reason),
     }
 }
 
@@ -121,17 +112,17 @@ fn run_planned(s: &[u8], plan: &[u16; PLAN], log: &[u8]) -> Counted
 {
     let h = sheet::header_of(s);
     match sheet::read_log(log, h.programs) {
-        LogReading::Records(_) => follow::follow(s, plan, log, h.programs),
-        LogReading::Refused(n) => unread(n),
+        Ok(_) => follow::follow(s, plan, log, h.programs),
+        Err(reason) => unread(reason),
     }
 }
 
 // A run of which the sheet, the network or the log is refused.
-fn unread(n: u8) -> Counted
-    ensures { result ≡ record { answer = run.Refused n; count = 0 } }
+fn unread(reason: Refusal) -> Counted
+    ensures { result ≡ record { answer = run.Refused reason; count = 0 } }
 {
     Counted {
-        answer: RunAnswer::Refused(n),
+        answer: RunAnswer::Refused(reason),
         count: 0,
     }
 }
@@ -152,47 +143,23 @@ pub fn advance(
     variables: &mut [u32; VARIABLES],
     given: Given,
     values: &[u32; VALUES],
-) -> Advanced
-    ensures value { result ≡ record { answer = (offer_in s.now plan.now (words run row.old variables.old) given values.now).answer; count = event_count_in s.now plan.now (words run row.old variables.old) given values.now; run = (offer_in s.now plan.now (words run row.old variables.old) given values.now).state.run } }
+) -> Result<Advanced, Refusal>
+    ensures value { answered run result ≡ record { answer = (offer_in s.now plan.now (words run row.old variables.old) given values.now).answer; count = event_count_in s.now plan.now (words run row.old variables.old) given values.now; run = (offer_in s.now plan.now (words run row.old variables.old) given values.now).state.run } }
     ensures row_after { (row.new ≡ (offer_in s.now plan.now (words run row.old variables.old) given values.now).state.row) × (variables.new ≡ (offer_in s.now plan.now (words run row.old variables.old) given values.now).state.variables) }
 {
     if run.opened <= MOST_OPENED {} else {
-        return refused(9, run);
+        return Err(Refusal::Unsound);
     }
     let place = row::place_of(row, wide(run.opened), long(given.number));
-    let n = row::refusal(plan, run, row, given, place);
-    if n == 0 {} else {
-        return refused(n, run);
-    }
+    row::admit(plan, run, row, given, place)?;
     if given.kind == 0 {
-        taken(event::entered(s, plan, run, row, variables, given, values))
+        Ok(event::entered(s, plan, run, row, variables, given, values))
     } else {
         let leaving = event::Leaving {
             unit: given.unit,
             place,
         };
-        taken(event::exited(s, plan, run, row, variables, leaving, values))
-    }
-}
-
-fn refused(answer: u8, run: Running) -> Advanced
-    ensures { result ≡ record { answer = answer; count = 0; run = run } }
-{
-    Advanced {
-        answer,
-        count: 0,
-        run,
-    }
-}
-
-fn taken(t: event::Taken) -> Advanced
-    ensures { result ≡ record { answer = 0; count = t.count; run = t.run } }
-{
-    let run = t.run;
-    Advanced {
-        answer: 0,
-        count: t.count,
-        run,
+        Ok(event::exited(s, plan, run, row, variables, leaving, values))
     }
 }
 

@@ -4,9 +4,10 @@
 ghost use Rattle.std.specs.Prelude.{◌≡◌, [], ◌∷◌, ◌+◌, ◌*◌, ◌<◌, ◌≤◌};
 ghost use Rattle.std.proofs.lemmas.List.Edits.{sets};
 ghost use Rattle.step.specs.Calls.{most_calls};
-ghost use Rattle.engine.specs.Walk.{place_in, entry_refusal, exit_refusal, refusal_in, row_without};
+ghost use Rattle.engine.specs.Walk.{code_of, place_in, entry_refusal, exit_refusal, refusal_in, row_without};
 
 use crate::{Given, PLAN, Running, broad, long, wide, word};
+use refusal::Refusal;
 use step::{CALLS, VALUES};
 
 // Where the words of the call of a number begin among the first `opened`, or where those end.
@@ -25,57 +26,65 @@ pub(crate) fn place_of(row: &[u32; 256], opened: usize, number: u32) -> usize
     at
 }
 
-// The lowest of refusals 10 to 15, or 0, with the place of the event's number.
-pub(crate) fn refusal(
+// Whether an event is taken, with the place of its number: the lowest of refusals 10 to 15 where not.
+pub(crate) fn admit(
     plan: &[u16; PLAN],
     run: Running,
     row: &[u32; 256],
     given: Given,
     place: usize,
-) -> u8
+) -> Result<(), Refusal>
     requires { (run.opened ≤ most_calls) × (place < 16 * run.opened → place + 16 ≤ 256) }
-    ensures { result ≡ refusal_in plan.now run row.now given place }
+    ensures { code_of result ≡ refusal_in plan.now run row.now given place }
 {
     let outcome = run.outcome;
     if step::outcomes::is_judged(outcome) {
-        return 10;
+        return Err(Refusal::Judged);
     }
     if (given.kind <= 1)
         & ((wide(given.unit) < broad(plan[0])) & (given.count == broad(plan[1])))
     {} else {
-        return 11;
+        return Err(Refusal::Unfit);
     }
     if run.position == 4294967295 {
-        return 12;
+        return Err(Refusal::LastPosition);
     }
     if given.kind == 0 {
-        entry_refusal(wide(run.opened), place)
+        admit_entry(wide(run.opened), place)
     } else {
-        exit_refusal(row, wide(run.opened), place, word(given.unit))
+        admit_exit(row, wide(run.opened), place, word(given.unit))
     }
 }
 
 // An entry's: 13 where its number is open, 14 where sixteen are.
-fn entry_refusal(opened: usize, place: usize) -> u8
+fn admit_entry(opened: usize, place: usize) -> Result<(), Refusal>
     requires { opened ≤ most_calls }
-    ensures { result ≡ entry_refusal opened place }
+    ensures { code_of result ≡ entry_refusal opened place }
 {
     if place < 16 * opened {
-        13
+        Err(Refusal::AlreadyOpen)
     } else {
-        if opened < CALLS { 0 } else { 14 }
+        if opened < CALLS {
+            Ok(())
+        } else {
+            Err(Refusal::Full)
+        }
     }
 }
 
 // An exit's: 15 where its number is not open, or for another unit.
-fn exit_refusal(row: &[u32; 256], opened: usize, place: usize, unit: u32) -> u8
+fn admit_exit(row: &[u32; 256], opened: usize, place: usize, unit: u32) -> Result<(), Refusal>
     requires { (opened ≤ most_calls) × (place < 16 * opened → place + 16 ≤ 256) }
-    ensures { result ≡ exit_refusal row.now opened place unit }
+    ensures { code_of result ≡ exit_refusal row.now opened place unit }
 {
     if place < 16 * opened {
-        if row[place + 1] == unit { 0 } else { 15 }
+        if row[place + 1] == unit {
+            Ok(())
+        } else {
+            Err(Refusal::NotOpen)
+        }
     } else {
-        15
+        Err(Refusal::NotOpen)
     }
 }
 

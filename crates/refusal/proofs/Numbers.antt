@@ -1,5 +1,5 @@
--- No two reasons have the same number. Assumes nothing.
-use Rattle.std.proofs.Common.{◌≡◌, ℕ, List, [], ◌∷◌, get_or, sym, refl, ap, ◌∙◌}
+-- No two reasons have the same number, and none has 0. Assumes nothing.
+use Rattle.std.proofs.Common.{◌≡◌, ℕ, suc, List, [], ◌∷◌, get_or, sym, refl, ap, ◌∙◌, arith}
 use Rattle.refusal.specs.declared.Refusal.{Refusal}
 use Rattle.refusal.specs.declared.Refusal.TheVariants as refusal
 use Rattle.refusal.specs.Numbers.{number_of}
@@ -62,3 +62,31 @@ reason_of refusal.NotListed = refl
 
 pub number_one : (a b : Refusal) → number_of a ≡ number_of b → a ≡ b
 number_one a b e = sym (reason_of a) ∙ ap (λ (n : ℕ). get_or reasons n refusal.Size) e ∙ reason_of b
+
+-- the number before it
+pub number_suc : (r : Refusal) → (k : ℕ) × (number_of r ≡ suc k)
+number_suc refusal.Size = (0, refl)
+number_suc refusal.Version = (1, refl)
+number_suc refusal.Counts = (2, refl)
+number_suc refusal.Lengths = (3, refl)
+number_suc refusal.Grammar = (4, refl)
+number_suc refusal.Ranges = (5, refl)
+number_suc refusal.Roles = (6, refl)
+number_suc refusal.Crowded = (7, refl)
+number_suc refusal.Unsound = (8, refl)
+number_suc refusal.Judged = (9, refl)
+number_suc refusal.Unfit = (10, refl)
+number_suc refusal.LastPosition = (11, refl)
+number_suc refusal.AlreadyOpen = (12, refl)
+number_suc refusal.Full = (13, refl)
+number_suc refusal.NotOpen = (14, refl)
+number_suc refusal.LogHead = (15, refl)
+number_suc refusal.LogPrograms = (16, refl)
+number_suc refusal.LogRecords = (17, refl)
+number_suc refusal.ShortBuffer = (18, refl)
+number_suc refusal.TooLong = (20, refl)
+number_suc refusal.OutOfRange = (21, refl)
+number_suc refusal.NotListed = (25, refl)
+
+pub number_above : (r : Refusal) → number_of r ≡ 0 → ⊥
+number_above r e = let (k, f) = number_suc r in absurd (omega (arith, e, f))

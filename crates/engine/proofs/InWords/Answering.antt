@@ -13,9 +13,8 @@ use Rattle.step.specs.Runs.{Offered, offered}
 use Rattle.step.specs.Answers.{unless_taken}
 use Rattle.engine.specs.declared.Running.{Running}
 use Rattle.engine.specs.declared.Given.{Given}
-use Rattle.engine.specs.declared.Advanced.{Advanced}
 use Rattle.engine.specs.Plan.{programs_in, monitors_in, cell_of, first_of, candidate_of}
-use Rattle.engine.specs.Walk.{found_in, found_count, armed_in, armed_count, place_in, seen_in, low_in, low_count, main_after, variables_after, action_count_after, run_after, Words, words, row_with, row_without, refusal_in, entered_in, exited_in, taken_in, offer_in, entered_count, exited_count, taken_count_in, event_count_in}
+use Rattle.engine.specs.Walk.{Answered, found_in, found_count, armed_in, armed_count, place_in, seen_in, low_in, low_count, main_after, variables_after, action_count_after, run_after, Words, words, row_with, row_without, refusal_in, entered_in, exited_in, taken_in, offer_in, entered_count, exited_count, taken_count_in, event_count_in}
 use Rattle.engine.proofs.InWords.Chains.{found_few, asked_few}
 use Rattle.engine.proofs.InWords.Taking.{action_few}
 use Rattle.engine.proofs.InWords.Failing.{low_few}
@@ -48,7 +47,7 @@ module _ (s p : List ℕ) (r : Running) (row variables values : List ℕ) (n : �
 
 -- What an event is answered, as it is handed back.
 pub told : (a c : ℕ) (τ : Words) (o : Offered Words) (k : ℕ) → (o ≡ record { answer = a; state = τ }) × (c ≡ k)
-    → (x : Advanced) → x ≡ record { answer = a; count = c; run = τ.run }
+    → (x : Answered) → x ≡ record { answer = a; count = c; run = τ.run }
     → (x ≡ record { answer = o.answer; count = k; run = o.state.run }) × ((τ.row ≡ o.state.row) × (τ.variables ≡ o.state.variables))
 told a c τ o k (e, f) x h = let g = sym e in (h ∙ (λ i. record { answer = (g i).answer; count = f i; run = (g i).state.run }), (λ i. (g i).state.row, λ i. (g i).state.variables))
 

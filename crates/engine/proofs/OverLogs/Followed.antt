@@ -19,8 +19,8 @@ use Rattle.sheet.proofs.Tables.{length_records, table_step}
 use Rattle.sheet.proofs.Readers.Loops.{byte_here, byte_past}
 use Rattle.sheet.proofs.Readers.Logs.{word_here, half_past}
 use Rattle.step.specs.declared.Verdict.{Verdict}
-use Rattle.step.specs.declared.Outcome.{Outcome}
-use Rattle.step.specs.declared.Outcome.TheVariants.{Open, Judged}
+use Rattle.std.specs.Prelude as Prelude
+use Rattle.std.specs.Prelude.{Some, None}
 use Rattle.step.specs.declared.RunAnswer.TheVariants.{Violated}
 use Rattle.step.specs.Verdicts.{outcome_of, verdict_in}
 use Rattle.step.specs.Runs.{Offered}
@@ -30,15 +30,14 @@ use Rattle.step.proofs.OnLists.Rooms.{four, behind_fit, length_fit}
 use Rattle.step.proofs.OnEvents.Following.{Engine, Works, Following, follow_refused, follow_violated, follow_next}
 use Rattle.engine.specs.declared.Running.{Running}
 use Rattle.engine.specs.declared.Given.{Given}
-use Rattle.engine.specs.declared.Advanced.{Advanced}
-use Rattle.engine.specs.Walk.{Words, words, offer_in, event_count_in, given_of, eight_of}
+use Rattle.engine.specs.Walk.{Answered, Words, words, offer_in, event_count_in, given_of, eight_of}
 use Rattle.engine.specs.Runs.{offer_by, start_in, follow_in, event_count_by, follow_count, ends_by, given_at}
 use Rattle.engine.proofs.InWords.Answering.{event_few}
 
 -- The words before the first event, from the header and the words behind it.
-pub run_started : (s : List ℕ) (h : Header) → h ≡ header_of s → record { main = h.start; opened = 0; position = 0; outcome = Open } ≡ (start_in s).run
+pub run_started : (s : List ℕ) (h : Header) → h ≡ header_of s → record { main = h.start; opened = 0; position = 0; outcome = None } ≡ (start_in s).run
 unfolding start_in
-run_started s h e = ap (λ (x : Header). record { main = x.start; opened = 0; position = 0; outcome = Open }) e
+run_started s h e = ap (λ (x : Header). record { main = x.start; opened = 0; position = 0; outcome = None }) e
 
 four_taken : (l : List ℕ) → four (fit 8 0 l) ≡ take 4 (fit 8 0 l)
 unfolding fit
@@ -123,9 +122,9 @@ engine s p =
       ends_in = ends_by;
     }
 
-outcome_shown : (o : Outcome) → o ≡ outcome_of (verdict_in o)
-outcome_shown Open = refl
-outcome_shown (Judged v) = refl
+outcome_shown : (o : Prelude.Option Verdict) → o ≡ outcome_of (verdict_in o)
+outcome_shown None = refl
+outcome_shown (Some v) = refl
 
 pub works : (s p : List ℕ) → Works (engine s p)
 unfolding follow_in follow_count event_count_in
@@ -156,7 +155,7 @@ pub clear_start : (n : ℕ) (l : List ℕ) → length l ≡ n → sets (replicat
 clear_start n l e = sets_fit 0 8 l
 
 -- One event of a log: it ends the run, or the run goes on behind it.
-module _ (s p : List ℕ) (P : ℕ) (log : List ℕ) (count size end : ℕ) (r : Running) (row variables old : List ℕ) (i sum at : ℕ) (g : Held s p P log count size end (words r row variables) old i sum at) (h : at < end) (given : Given) (eg : given ≡ given_at log at P) (values : List ℕ) (ev : values ≡ sets old 0 (table word_form count log (at + 4))) (next : Advanced) (en : next ≡ record { answer = (offer_in s p (words r row variables) given values).answer; count = event_count_in s p (words r row variables) given values; run = (offer_in s p (words r row variables) given values).state.run }) where
+module _ (s p : List ℕ) (P : ℕ) (log : List ℕ) (count size end : ℕ) (r : Running) (row variables old : List ℕ) (i sum at : ℕ) (g : Held s p P log count size end (words r row variables) old i sum at) (h : at < end) (given : Given) (eg : given ≡ given_at log at P) (values : List ℕ) (ev : values ≡ sets old 0 (table word_form count log (at + 4))) (next : Answered) (en : next ≡ record { answer = (offer_in s p (words r row variables) given values).answer; count = event_count_in s p (words r row variables) given values; run = (offer_in s p (words r row variables) given values).state.run }) where
   abbrev σ : Words
   σ = words r row variables
 
@@ -170,13 +169,13 @@ module _ (s p : List ℕ) (P : ℕ) (log : List ℕ) (count size end : ℕ) (r :
   offer_there = λ j. offer_in s p σ ((eg ∙ given_event P log at) j) (values_there j)
 
   answer_there : next.answer ≡ (offer_by s p (words r row variables) (event_at P log at)).answer
-  answer_there = ap (λ (a : Advanced). a.answer) en ∙ ap (λ (o : Offered Words). o.answer) offer_there
+  answer_there = ap (λ (a : Answered). a.answer) en ∙ ap (λ (o : Offered Words). o.answer) offer_there
 
   count_there : next.count ≡ event_count_by s p (words r row variables) (event_at P log at)
-  count_there = ap (λ (a : Advanced). a.count) en ∙ (λ j. event_count_in s p σ ((eg ∙ given_event P log at) j) (values_there j))
+  count_there = ap (λ (a : Answered). a.count) en ∙ (λ j. event_count_in s p σ ((eg ∙ given_event P log at) j) (values_there j))
 
   run_there : next.run ≡ (offer_by s p (words r row variables) (event_at P log at)).state.run
-  run_there = ap (λ (a : Advanced). a.run) en ∙ ap (λ (o : Offered Words). o.state.run) offer_there
+  run_there = ap (λ (a : Answered). a.run) en ∙ ap (λ (o : Offered Words). o.state.run) offer_there
 
   pub ends_refused : (next.answer ≡ 0 → ⊥) → (words.refused_at next.answer (i + 1) ≡ ran_answer ends_by (follow_in s p (events_of P log))) × (sum ≡ follow_count s p (events_of P log))
   ends_refused k = follow_refused (works s p) P log σ i sum at end g.following h (event_at P log at) refl next.answer answer_there k
@@ -186,11 +185,11 @@ module _ (s p : List ℕ) (P : ℕ) (log : List ℕ) (count size end : ℕ) (r :
     pub sum_fits : sum + m < 18446744073709551616
     sum_fits = omega (arith, em, count_there, event_few s p σ (given_of (event_at P log at)) (eight_of (event_at P log at)), g.following.small, g.following.low, g.following.fits)
 
-    pub ends_violated : (x : Verdict) → next.run.outcome ≡ Judged x → (run_paper (Violated x) ≡ ran_answer ends_by (follow_in s p (events_of P log))) × (sum + m ≡ follow_count s p (events_of P log))
+    pub ends_violated : (x : Verdict) → next.run.outcome ≡ Some x → (run_paper (Violated x) ≡ ran_answer ends_by (follow_in s p (events_of P log))) × (sum + m ≡ follow_count s p (events_of P log))
     ends_violated x k =
         follow_violated (works s p) P log σ i sum at end g.following h (event_at P log at) refl (sym answer_there ∙ z) (offer_by s p σ (event_at P log at)).state refl m (em ∙ count_there) x (ap (λ (q : Running). q.outcome) (sym run_there) ∙ k)
 
-    pub goes_on : next.run.outcome ≡ Open → (row₁ variables₁ : List ℕ)
+    pub goes_on : next.run.outcome ≡ None → (row₁ variables₁ : List ℕ)
         → (row₁ ≡ (offer_in s p (words r row variables) given values).state.row) × (variables₁ ≡ (offer_in s p (words r row variables) given values).state.variables)
         → Held s p P log count size end (words next.run row₁ variables₁) values (i + 1) (sum + m) (at + size)
     goes_on k row₁ variables₁ (a, b) =

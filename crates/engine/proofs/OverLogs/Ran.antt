@@ -12,8 +12,9 @@ use Rattle.sheet.specs.Parts.{Common}
 use Rattle.sheet.specs.Decode.{word_form, common_of, sheet_of, network_of}
 use Rattle.sheet.specs.Reading.{Layout, reading, last_of, sheet_layout, network_layout}
 use Rattle.sheet.specs.Log.{Event, log_reading, events_of}
-use Rattle.sheet.specs.declared.Reading.{Reading}
-use Rattle.sheet.specs.declared.Reading.TheVariants.{Refused}
+use Rattle.std.specs.Prelude.{Result, Err}
+use Rattle.refusal.specs.declared.Refusal.{Refusal}
+use Rattle.refusal.specs.Numbers.{number_of}
 use Rattle.sheet.specs.Answer.{reading_paper, answer}
 use Rattle.sheet.proofs.Accepted.{Accepted, accepted, bounds, length_said}
 use Rattle.sheet.proofs.Tables.{length_records}
@@ -68,12 +69,12 @@ unfolding common_of
 few_programs_lem F s h = (bounds (accepted F s h)).programs
 
 module _ (s log : List ℕ) where
-  module _ (r : Reading) (n : ℕ) (h : r ≡ Refused n) where
-    pub sheet_unread : reading_paper r ≡ answer (reading sheet_layout s) → (refused n ≡ sheet_run s log) × (0 ≡ sheet_count s log)
+  module _ (r : Result (Unit {0}) Refusal) (n : Refusal) (h : r ≡ Err n) where
+    pub sheet_unread : reading_paper r ≡ answer (reading sheet_layout s) → (refused (number_of n) ≡ sheet_run s log) × (0 ≡ sheet_count s log)
     unfolding sheet_run sheet_count
     sheet_unread er = (unread_run (reading sheet_layout s) r er n h _, unread_count (reading sheet_layout s) r er n h _)
 
-    pub network_unread : reading_paper r ≡ answer (reading network_layout s) → (refused n ≡ network_run s log) × (0 ≡ network_count s log)
+    pub network_unread : reading_paper r ≡ answer (reading network_layout s) → (refused (number_of n) ≡ network_run s log) × (0 ≡ network_count s log)
     unfolding network_run network_count
     network_unread er = (unread_run (reading network_layout s) r er n h _, unread_count (reading network_layout s) r er n h _)
 

@@ -10,8 +10,9 @@ use Rattle.sheet.specs.Table.{starts, fit}
 use Rattle.sheet.specs.Decode.{wide, triple_form}
 use Rattle.sheet.specs.Reading.{Layout, reading, sheet_layout, network_layout}
 use Rattle.sheet.specs.declared.Header.{Header}
-use Rattle.sheet.specs.declared.Reading.{Reading}
-use Rattle.sheet.specs.declared.Reading.TheVariants as sheet
+use Rattle.std.specs.Prelude.{Result, Ok, Err}
+use Rattle.refusal.specs.declared.Refusal.{Refusal}
+use Rattle.refusal.specs.Numbers.{number_of}
 use Rattle.sheet.specs.declared.Places.{Places}
 use Rattle.sheet.specs.Answer as paper
 use Rattle.sheet.specs.Answer.{reading_paper, answer, header_of, places_of}
@@ -40,11 +41,11 @@ pub network_near : (s : List ℕ) → reading network_layout s ≡ 0 → (x : Pl
 network_near s h x e = near_places (accepted network_layout s h) (omega (arith, network_longest s h, most_near (wide s))) x e
 
 -- what is read is put into a plan, and what is not leaves it as it was
-module _ (n : ℕ) (r : Reading) (er : reading_paper r ≡ answer n) where
-  pub put_accepted : r ≡ sheet.Accepted → (before after put : List ℕ) → after ≡ put → (paper.accepted tt ≡ answer n) × (after ≡ unless_taken n before put)
+module _ (n : ℕ) (r : Result (Unit {0}) Refusal) (er : reading_paper r ≡ answer n) where
+  pub put_accepted : r ≡ Ok tt → (before after put : List ℕ) → after ≡ put → (paper.accepted tt ≡ answer n) × (after ≡ unless_taken n before put)
   put_accepted h before after put e = rw (answer_accepted n r er h) (refl, e)
 
-  pub kept_refused : (m : ℕ) → r ≡ sheet.Refused m → (before put : List ℕ) → (paper.refused m ≡ answer n) × (before ≡ unless_taken n before put)
+  pub kept_refused : (m : Refusal) → r ≡ Err m → (before put : List ℕ) → (paper.refused (number_of m) ≡ answer n) × (before ≡ unless_taken n before put)
   kept_refused m h before put = let (k, g, x) = answer_refused n r er m h in rw g (ap paper.refused x, refl)
 
 -- made where there was nothing, it is the plan

@@ -1,8 +1,9 @@
 -- `follow::follow` meets its contract. Assumes nothing.
-use mathlib.Core.Path.{ap, ◌∙◌}
+use mathlib.Core.Path.{refl, ap, ◌∙◌}
 use Prim.Native.Nat.{◌+◌, ◌*◌, ◌<◌}
 use native.Mathlib.Omega.{arith}
 use borrow.Author.Rules.{rules}
+use Rattle.refusal.proofs.Numbers.{number_above}
 use Rattle.sheet.specs.Log.{record_size}
 use Rattle.step.proofs.OnEvents.Following.{log_length, follow_start, follow_end, follow_room}
 use Rattle.engine.proofs.OverLogs.Followed.{works, started_words, clear_start, ends_refused, sum_fits, ends_violated, goes_on}
@@ -42,22 +43,22 @@ overflow_add-i c =
     let small : c.loop-at.i + 1 < 4294967296 = omega (arith, g.following.low, g.following.fits, c.loop-at-test.true) in
     search (rules, small)
 
-pub returns-else-next-eq0 : goal.returns-else-next-eq0
-returns-else-next-eq0 c =
+pub returns-in-Err : goal.returns-in-Err
+returns-in-Err c =
     let a = c.args in
-    rw c.counted.ensures (let all = ends_refused a.s.now a.plan.now a.programs a.log.now _ _ _ _ _ _ _ _ _ _ c.loop-at.invariant c.loop-at-test.true _ c.given_at-given.ensures _ c.read_values.ensures _ c.advance-next.ensures.value c.if-next-eq0.false in
+    rw c.counted.ensures (let all = ends_refused a.s.now a.plan.now a.programs a.log.now _ _ _ _ _ _ _ _ _ _ c.loop-at.invariant c.loop-at-test.true _ c.given_at-given.ensures _ c.read_values.ensures _ c.in-Err.ensures.value (number_above _) in
     record { answer_value = all.0; count_value = all.1 })
 
 pub overflow_add-total : goal.overflow_add-total
 overflow_add-total c =
     let a = c.args in
-    let small = sum_fits a.s.now a.plan.now a.programs a.log.now _ _ _ _ _ _ _ _ _ _ c.loop-at.invariant c.loop-at-test.true _ c.given_at-given.ensures _ c.read_values.ensures _ c.advance-next.ensures.value c.if-next-eq0.true _ c.double-total.ensures in
+    let small = sum_fits a.s.now a.plan.now a.programs a.log.now _ _ _ _ _ _ _ _ _ _ c.loop-at.invariant c.loop-at-test.true _ c.given_at-given.ensures _ c.read_values.ensures _ c.in-Ok.ensures.value refl _ c.double-total.ensures in
     search (rules, small)
 
-pub returns-in-Judged : goal.returns-in-Judged
-returns-in-Judged c =
+pub returns-in-Some : goal.returns-in-Some
+returns-in-Some c =
     let a = c.args in
-    rw c.counted-in-Judged.ensures (let all = ends_violated a.s.now a.plan.now a.programs a.log.now _ _ _ _ _ _ _ _ _ _ c.loop-at.invariant c.loop-at-test.true _ c.given_at-given.ensures _ c.read_values.ensures _ c.advance-next.ensures.value c.if-next-eq0.true _ c.double-total.ensures _ c.in-Judged.is in
+    rw c.counted-in-Some.ensures (let all = ends_violated a.s.now a.plan.now a.programs a.log.now _ _ _ _ _ _ _ _ _ _ c.loop-at.invariant c.loop-at-test.true _ c.given_at-given.ensures _ c.read_values.ensures _ c.in-Ok.ensures.value refl _ c.double-total.ensures _ c.in-Some.is in
     record { answer_value = all.0; count_value = all.1 })
 
 pub overflow_add-at-in-loop-at : goal.overflow_add-at-in-loop-at
@@ -78,7 +79,7 @@ loop-at-smaller c =
 pub loop-at-preserved : goal.loop-at-preserved
 loop-at-preserved c =
     let a = c.args in
-    goes_on a.s.now a.plan.now a.programs a.log.now _ _ _ _ _ _ _ _ _ _ c.loop-at.invariant c.loop-at-test.true _ c.given_at-given.ensures _ c.read_values.ensures _ c.advance-next.ensures.value c.if-next-eq0.true _ c.double-total.ensures c.in-Open.is _ _ c.advance-next.ensures.row_after
+    goes_on a.s.now a.plan.now a.programs a.log.now _ _ _ _ _ _ _ _ _ _ c.loop-at.invariant c.loop-at-test.true _ c.given_at-given.ensures _ c.read_values.ensures _ c.in-Ok.ensures.value refl _ c.double-total.ensures (search rules) _ _ c.in-Ok.ensures.row_after
 
 pub returns : goal.returns
 returns c =

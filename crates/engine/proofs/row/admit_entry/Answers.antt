@@ -1,6 +1,6 @@
--- `row::entry_refusal` meets its contract. Assumes nothing.
+-- `row::admit_entry` meets its contract. Assumes nothing.
 use Rattle.engine.proofs.InWords.Refused.{entry_again, entry_free, entry_full}
-use Rattle.engine.proofs.row.entry_refusal.Goals as goal
+use Rattle.engine.proofs.row.admit_entry.Goals as goal
 
 pub returns-then-place-opened : goal.returns-then-place-opened
 returns-then-place-opened c = entry_again _ _ c.if-place-opened.true

@@ -1,7 +1,7 @@
--- `row::exit_refusal` meets its contract. Assumes nothing.
+-- `row::admit_exit` meets its contract. Assumes nothing.
 use native.Mathlib.Omega.{arith}
 use Rattle.engine.proofs.InWords.Refused.{exit_free, exit_other, exit_unknown}
-use Rattle.engine.proofs.row.exit_refusal.Goals as goal
+use Rattle.engine.proofs.row.admit_exit.Goals as goal
 
 pub bounds-row-place : goal.bounds-row-place
 bounds-row-place c = omega (arith, c.requires.1 c.if-place-opened.true)

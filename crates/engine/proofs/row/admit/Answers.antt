@@ -1,7 +1,7 @@
--- `row::refusal` meets its contract. Assumes nothing.
+-- `row::admit` meets its contract. Assumes nothing.
 use native.Mathlib.Omega.{arith}
 use Rattle.engine.proofs.InWords.Refused.{refused_judged, refused_form, refused_last, refused_entry, refused_exit}
-use Rattle.engine.proofs.row.refusal.Goals as goal
+use Rattle.engine.proofs.row.admit.Goals as goal
 
 pub returns-then-is_judged : goal.returns-then-is_judged
 returns-then-is_judged c = refused_judged _ _ _ _ _ _ c.is_judged.ensures c.if-is_judged.true
@@ -12,13 +12,13 @@ returns-else-given-wide c = refused_form _ _ _ _ _ _ c.is_judged.ensures c.if-is
 pub returns-then-run-eq4294967295 : goal.returns-then-run-eq4294967295
 returns-then-run-eq4294967295 c = refused_last _ _ _ _ _ _ c.is_judged.ensures c.if-is_judged.false _ c.wide.ensures.0 _ c.broad.ensures.0 _ c.broad-2.ensures.0 c.if-given-wide.true c.if-run-eq4294967295.true
 
-pub exit_refusal-requires : goal.exit_refusal-requires
-exit_refusal-requires c =
+pub admit_exit-requires : goal.admit_exit-requires
+admit_exit-requires c =
     let opened = c.wide-else-given-eq0.ensures.0 in
     (omega (arith, c.requires.0, opened), λ h. c.requires.1 (omega (arith, h, opened)))
 
 pub returns-then-given-eq0 : goal.returns-then-given-eq0
-returns-then-given-eq0 c = refused_entry _ _ _ _ _ _ c.is_judged.ensures c.if-is_judged.false _ c.wide.ensures.0 _ c.broad.ensures.0 _ c.broad-2.ensures.0 c.if-given-wide.true c.if-run-eq4294967295.false _ c.wide-then-given-eq0.ensures.0 _ c.if-given-eq0.true c.entry_refusal.ensures
+returns-then-given-eq0 c = refused_entry _ _ _ _ _ _ c.is_judged.ensures c.if-is_judged.false _ c.wide.ensures.0 _ c.broad.ensures.0 _ c.broad-2.ensures.0 c.if-given-wide.true c.if-run-eq4294967295.false _ c.wide-then-given-eq0.ensures.0 _ c.if-given-eq0.true c.admit_entry.ensures
 
 pub returns-else-given-eq0 : goal.returns-else-given-eq0
-returns-else-given-eq0 c = refused_exit _ _ _ _ _ _ c.is_judged.ensures c.if-is_judged.false _ c.wide.ensures.0 _ c.broad.ensures.0 _ c.broad-2.ensures.0 c.if-given-wide.true c.if-run-eq4294967295.false _ c.wide-else-given-eq0.ensures.0 _ c.if-given-eq0.false _ c.word.ensures.0 c.exit_refusal.ensures
+returns-else-given-eq0 c = refused_exit _ _ _ _ _ _ c.is_judged.ensures c.if-is_judged.false _ c.wide.ensures.0 _ c.broad.ensures.0 _ c.broad-2.ensures.0 c.if-given-wide.true c.if-run-eq4294967295.false _ c.wide-else-given-eq0.ensures.0 _ c.if-given-eq0.false _ c.word.ensures.0 c.admit_exit.ensures
