@@ -75,8 +75,5 @@ fn cause_fits(bad: u16, triples: u8, main: u8, v: Verdict) -> bool
 pub fn is_judged(outcome: Option<Verdict>) -> bool
     ensures { result ≡ is_judged (verdict_in outcome) }
 {
-    match outcome {
-        None => false,
-        Some(_) => true,
-    }
+    outcome.is_some()
 }
