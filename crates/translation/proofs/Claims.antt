@@ -2,11 +2,13 @@
 use mathlib.Core.Path.{◌≡◌, ap}
 use Prim.Native.Nat.{ℕ}
 use native.Mathlib.Omega.{arith}
-use Rattle.translation.specs.declared.Translated.TheVariants as translated
+use Rattle.std.specs.Prelude.{Ok, Err}
+use Rattle.refusal.specs.Numbers.{number_of}
+use Rattle.refusal.proofs.Numbers.{number_one}
 use Rattle.translation.specs.Claims.{Told}
 
 pub told : Told
-told (translated.Written n) (translated.Written m) e = let x : n ≡ m = cc in ap translated.Written x
-told (translated.Written n) (translated.Refused m) e = let z : ◌≡◌ {A = ℕ} 0 1 = cc in absurd (omega arith)
-told (translated.Refused n) (translated.Written m) e = let z : ◌≡◌ {A = ℕ} 0 1 = cc in absurd (omega arith)
-told (translated.Refused n) (translated.Refused m) e = let x : n ≡ m = cc in ap translated.Refused x
+told (Ok n) (Ok m) e = let x : n ≡ m = cc in ap Ok x
+told (Ok n) (Err m) e = let z : ◌≡◌ {A = ℕ} 0 1 = cc in absurd (omega arith)
+told (Err n) (Ok m) e = let z : ◌≡◌ {A = ℕ} 0 1 = cc in absurd (omega arith)
+told (Err n) (Err m) e = let x : number_of n ≡ number_of m = cc in ap Err (number_one n m x)

@@ -13,8 +13,8 @@ use Rattle.sheet.specs.Decode.{sheet_of}
 use Rattle.sheet.specs.Reading.{unless, or_else, reading, sheet_layout}
 use Rattle.sheet.proofs.Tests.{and_iff}
 use Rattle.sheet.proofs.Accepted.{accepted}
-use Rattle.translation.specs.declared.Translated.{Translated}
-use Rattle.translation.specs.declared.Translated.TheVariants.{Written}
+use Rattle.std.specs.Prelude.{Result, Ok}
+use Rattle.refusal.specs.declared.Refusal.{Refusal}
 use Rattle.translation.specs.Translate.{translate}
 use Rattle.translation.specs.Card.{joined_conditions}
 use Rattle.translation.specs.Answer.{network_bytes, translate_refusal, written, refused, translated_paper, translated_with, buffer_with, translated_of, buffer_of, card_bytes, card_fits, card_refusal, card_of, card_buffer_of}
@@ -110,7 +110,7 @@ refused_reading s buffer k n h = go (reading sheet_layout s) refl
         (j, cc, e)
 
 -- What translating answered, and what it left in the buffer.
-module _ (s buffer : List ℕ) (t : Translated) (e : translated_paper t ≡ translated_of s buffer) (n : ℕ) (h : t ≡ Written n) where
+module _ (s buffer : List ℕ) (t : Result ℕ Refusal) (e : translated_paper t ≡ translated_of s buffer) (n : ℕ) (h : t ≡ Ok n) where
   pub told : translated_of s buffer ≡ written n
   told = sym e ∙ ap translated_paper h
 

@@ -1,11 +1,11 @@
 -- What translating answers, and the buffer that it leaves (document 01, "What each operation turns away"; change request 5).
-use Rattle.std.specs.Prelude.{Bool, true, false, ◌&&◌, List, ◌++◌, ℕ, zero, suc, leb, length, drop}
+use Rattle.std.specs.Prelude.{Bool, true, false, ◌&&◌, List, ◌++◌, ℕ, zero, suc, leb, length, drop, Result, Ok, Err}
 use Rattle.sheet.specs.Table.{every}
 use Rattle.sheet.specs.Decode.{sheet_of}
 use Rattle.sheet.specs.Encode.{encode}
 use Rattle.sheet.specs.Reading.{unless, or_else, reading, sheet_layout}
-use Rattle.translation.specs.declared.Translated.{Translated}
-use Rattle.translation.specs.declared.Translated.TheVariants as answer
+use Rattle.refusal.specs.declared.Refusal.{Refusal}
+use Rattle.refusal.specs.Numbers.{number_of}
 use Rattle.translation.specs.Translate.{translate}
 use Rattle.translation.specs.Card.{joined_conditions, card}
 
@@ -22,9 +22,9 @@ pub data Writing : Type 0 where
   written : ℕ → Writing
   refused : ℕ → Writing
 
-abbrev pub translated_paper : Translated → Writing
-translated_paper (answer.Written n) = written n
-translated_paper (answer.Refused n) = refused n
+abbrev pub translated_paper : Result ℕ Refusal → Writing
+translated_paper (Ok n) = written n
+translated_paper (Err r) = refused (number_of r)
 
 abbrev pub translated_with : ℕ → ℕ → Writing
 translated_with zero size = written size

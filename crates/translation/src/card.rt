@@ -11,8 +11,9 @@ ghost use Rattle.translation.specs.Answer.{translated_paper, translated_with, bu
 ghost use Rattle.translation.specs.Walk.{Room, Writes};
 ghost use Rattle.translation.specs.CardWalk.{Narrow, PreparedNetwork, earlier_in, WritesWide, separated_bytes, joined_short, separate_refusal};
 
+use crate::write;
 use crate::write::{Both, base, copy, far, header, near, put_half, put_two, texts, wide, words};
-use crate::{Translated, write};
+use refusal::Refusal;
 use sheet::{Header, Transition};
 
 // Whether a transition is of another's state, kind and unit.
@@ -217,7 +218,7 @@ fn fill(n: &[u8], h: Header, index: &[u32; 161], from: u32, last: u32, size: u16
 }
 
 // Writes the network for the card from an accepted network of version 2.
-fn separate(n: &[u8], out: &mut [u8]) -> Translated
+fn separate(n: &[u8], out: &mut [u8]) -> Result<usize, Refusal>
     requires { (reading network_layout n.now ≡ 0) × (Rattle.sheet.specs.Decode.wide n.now ≡ false) }
     ensures { (translated_paper result ≡ translated_with (separate_refusal n.now out.old) (length (separated_bytes n.now))) × (out.new ≡ buffer_with (separate_refusal n.now out.old) (separated_bytes n.now) out.old) }
 {
@@ -225,27 +226,25 @@ fn separate(n: &[u8], out: &mut [u8]) -> Translated
     let p = sheet::network_places(n);
     let index = p.conditions;
     if all_short(n, &index, p.transitions, h.transitions) {} else {
-        return Translated::Refused(21);
+        return Err(Refusal::TooLong);
     }
     let size = measure(n, h, &index, p.transitions, p.last);
     if 65535 < size {
-        return Translated::Refused(21);
+        return Err(Refusal::TooLong);
     }
     if out.len() < size {
-        return Translated::Refused(19);
+        return Err(Refusal::ShortBuffer);
     }
     fill(n, h, &index, p.transitions, p.last, size as u16, out);
-    Translated::Written(size)
+    Ok(size)
 }
 
 // Writes the network for the card from an accepted sheet.
-pub(crate) fn translate(s: &[u8], out: &mut [u8]) -> Translated
+pub(crate) fn translate(s: &[u8], out: &mut [u8]) -> Result<usize, Refusal>
     requires { reading sheet_layout s.now ≡ 0 }
     ensures { (translated_paper result ≡ card_of s.now out.old) × (out.new ≡ card_buffer_of s.now out.old) }
 {
     let mut room = [0u8; 8192];
-    match write::translate(s, &mut room) {
-        Translated::Written(k) => separate(&room[..k], out),
-        Translated::Refused(k) => Translated::Refused(k),
-    }
+    let k = write::translate(s, &mut room)?;
+    separate(&room[..k], out)
 }

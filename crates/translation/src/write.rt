@@ -9,7 +9,7 @@ ghost use Rattle.sheet.specs.Reading.{reading, sheet_layout};
 ghost use Rattle.translation.specs.Answer.{network_bytes, translated_paper, translated_of, buffer_of};
 ghost use Rattle.translation.specs.Walk.{Room, Prepared, Measures, Writes, WritesTables, WritesAdded, texts_at, WritesTexts, triples_at, counted_pairs, base_bytes, copied_at, back_at, copied_bytes, added_at, templates_at, header_at};
 
-use crate::Translated;
+use refusal::Refusal;
 use sheet::{Header, Transition};
 
 // Where a sheet's triples begin, and how many there are; the numbers of the added condition and
@@ -344,7 +344,7 @@ fn fill(s: &[u8], h: Header, f: Frame, from: u32, size: Spot, out: &mut [u8])
 }
 
 // Translates an accepted sheet.
-pub(crate) fn translate(s: &[u8], out: &mut [u8]) -> Translated
+pub(crate) fn translate(s: &[u8], out: &mut [u8]) -> Result<usize, Refusal>
     requires { reading sheet_layout s.now ≡ 0 }
     ensures { (translated_paper result ≡ translated_of s.now out.old) × (out.new ≡ buffer_of s.now out.old) }
 {
@@ -358,10 +358,10 @@ pub(crate) fn translate(s: &[u8], out: &mut [u8]) -> Translated
     };
     let size = measure(s, h, f, p.transitions);
     if out.len() < size.at {
-        return Translated::Refused(19);
+        return Err(Refusal::ShortBuffer);
     }
     fill(s, h, f, p.transitions, size, out);
-    Translated::Written(size.at)
+    Ok(size.at)
 }
 
 pub(crate) fn near(x: u8) -> usize

@@ -10,8 +10,9 @@ use lib.ListN.{length, drop, length-append, length-map}
 use lib.Seq.{sets, sets-eq}
 use Rattle.sheet.specs.declared.Header.{Header}
 use Rattle.sheet.specs.declared.Places.{Places}
-use Rattle.sheet.specs.declared.Reading.{Reading}
-use Rattle.sheet.specs.declared.Reading.TheVariants as reading
+use Rattle.std.specs.Prelude.{Result, Ok, Err}
+use Rattle.refusal.specs.declared.Refusal.{Refusal}
+use Rattle.refusal.specs.Numbers.{number_of}
 use Rattle.sheet.specs.Bytes.{byte, half}
 use Rattle.sheet.specs.Parts.{Paired, Network, bases}
 use Rattle.sheet.specs.Table.{table}
@@ -22,8 +23,6 @@ use Rattle.sheet.specs.Answer.{reading_paper, answer, header_of, places_of}
 use Rattle.sheet.proofs.Accepted.{accepted, reading_accepted}
 use Rattle.sheet.proofs.Encoding.{encode_wide}
 use Rattle.sheet.proofs.Tables.{length_records}
-use Rattle.translation.specs.declared.Translated.{Translated}
-use Rattle.translation.specs.declared.Translated.TheVariants.{Refused}
 use Rattle.translation.specs.Translate.{translate}
 use Rattle.translation.specs.Card.{joined_conditions, guarded_from, with_conditions, separated, card}
 use Rattle.translation.specs.Answer.{network_bytes, Writing, written, refused, translated_paper, translated_with, buffer_with, translated_of, card_bytes, card_fits, card_refusal, card_of, card_buffer_of}
@@ -146,12 +145,12 @@ module _ (s : List ℕ) (a : reading sheet_layout s ≡ 0) where
     carded o x r (f, g) = rw (← same_refusal o, ← same_bytes) (f, g)
 
   -- a buffer of 8,192 bytes is never too short
-  pub never_short : (o buffer : List ℕ) → 8192 ≤ length buffer → (t : Translated) → translated_paper t ≡ translated_of s buffer → (k : ℕ) → t ≡ Refused k → (refused k ≡ card_of s o) × (o ≡ card_buffer_of s o)
+  pub never_short : (o buffer : List ℕ) → 8192 ≤ length buffer → (t : Result ℕ Refusal) → translated_paper t ≡ translated_of s buffer → (k : Refusal) → t ≡ Err k → (refused (number_of k) ≡ card_of s o) × (o ≡ card_buffer_of s o)
   never_short o buffer h t e k f =
-      let (m, g, z) = refused_reading s buffer h k (sym e ∙ ap translated_paper f) in
+      let (m, g, z) = refused_reading s buffer h (number_of k) (sym e ∙ ap translated_paper f) in
       absurd (omega arith)
 
 -- Where the sheet is refused.
-pub card_unread : (s o : List ℕ) (r : Reading) → reading_paper r ≡ answer (reading sheet_layout s) → (n : ℕ) → r ≡ reading.Refused n → (refused n ≡ card_of s o) × (o ≡ card_buffer_of s o)
+pub card_unread : (s o : List ℕ) (r : Result (Unit {0}) Refusal) → reading_paper r ≡ answer (reading sheet_layout s) → (n : Refusal) → r ≡ Err n → (refused (number_of n) ≡ card_of s o) × (o ≡ card_buffer_of s o)
 unfolding card_of card_buffer_of card_refusal
 card_unread s o r er n h = unread_with s o (card_bytes s) _ r er n h

@@ -9,8 +9,9 @@ use lib.ListN.{length, drop, length-append}
 use lib.Seq.{sets, sets-eq}
 use Rattle.sheet.specs.declared.Header.{Header}
 use Rattle.sheet.specs.declared.Places.{Places}
-use Rattle.sheet.specs.declared.Reading.{Reading}
-use Rattle.sheet.specs.declared.Reading.TheVariants as reading
+use Rattle.std.specs.Prelude.{Result, Ok, Err}
+use Rattle.refusal.specs.declared.Refusal.{Refusal}
+use Rattle.refusal.specs.Numbers.{number_of}
 use Rattle.sheet.specs.Decode.{wide, text_form, transition_form, conditions_in, actions_in, transitions_in, conditions_at, actions_at, transitions_at, common_of, sheet_of}
 use Rattle.sheet.specs.Encode.{table_bytes, header_bytes, encode}
 use Rattle.sheet.specs.Reading.{or_else, reading, sheet_layout}
@@ -103,12 +104,12 @@ module _ (s o : List ℕ) where
         rw (a, t, e) (refl, f)
 
 -- Where the sheet is refused, in either form: m stands for what would be asked after reading.
-pub unread_with : (s o net : List ℕ) (m : ℕ) (r : Reading) → reading_paper r ≡ answer (reading sheet_layout s) → (n : ℕ) → r ≡ reading.Refused n
-    → (refused n ≡ translated_with (or_else (reading sheet_layout s) m) (length net)) × (o ≡ buffer_with (or_else (reading sheet_layout s) m) net o)
+pub unread_with : (s o net : List ℕ) (m : ℕ) (r : Result (Unit {0}) Refusal) → reading_paper r ≡ answer (reading sheet_layout s) → (n : Refusal) → r ≡ Err n
+    → (refused (number_of n) ≡ translated_with (or_else (reading sheet_layout s) m) (length net)) × (o ≡ buffer_with (or_else (reading sheet_layout s) m) net o)
 unread_with s o net m r er n h =
     let (k, f, e) = answer_refused (reading sheet_layout s) r er n h in
     rw f (ap refused e, refl)
 
-pub unread : (s o : List ℕ) (r : Reading) → reading_paper r ≡ answer (reading sheet_layout s) → (n : ℕ) → r ≡ reading.Refused n → (refused n ≡ translated_of s o) × (o ≡ buffer_of s o)
+pub unread : (s o : List ℕ) (r : Result (Unit {0}) Refusal) → reading_paper r ≡ answer (reading sheet_layout s) → (n : Refusal) → r ≡ Err n → (refused (number_of n) ≡ translated_of s o) × (o ≡ buffer_of s o)
 unfolding translated_of buffer_of translate_refusal
 unread s o r er n h = unread_with s o (network_bytes s) _ r er n h

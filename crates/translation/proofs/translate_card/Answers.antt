@@ -1,11 +1,13 @@
 -- `translate_card` meets its contract. Assumes nothing.
-use borrow.Author.Rules.{rules}
+use Rattle.std.proofs.lemmas.Result.{err_from_is_err_and}
 use Rattle.sheet.proofs.Answers.{answer_accepted}
 use Rattle.translation.proofs.Cards.CardFilling.{card_unread}
 use Rattle.translation.proofs.translate_card.Goals as goal
 
 pub translate-requires : goal.translate-requires
-translate-requires c = answer_accepted _ c.read_sheet.result c.read_sheet.ensures (search rules)
+translate-requires c = answer_accepted _ c.read_sheet.result c.read_sheet.ensures c.in_ok-read_sheet.was
 
-pub returns-in-Refused : goal.returns-in-Refused
-returns-in-Refused c = card_unread _ _ c.read_sheet.result c.read_sheet.ensures _ (search rules)
+pub returns-in_err-read_sheet : goal.returns-in_err-read_sheet
+returns-in_err-read_sheet c =
+    let e = err_from_is_err_and c.from_residual.result c.from_residual.ensures.1 in
+    rw (e.1, e.2) (card_unread _ _ c.read_sheet.result c.read_sheet.ensures _ c.in_err-read_sheet.was)
