@@ -6,7 +6,7 @@ use Rattle.sheet.specs.Parts.{Sheet}
 use Rattle.sheet.specs.Decode.{sheet_of}
 use Rattle.sheet.specs.Reading.{reading, sheet_layout}
 use Rattle.step.specs.declared.Call.{Call}
-use Rattle.step.specs.declared.Outcome.TheVariants.{Open}
+use Rattle.std.specs.Prelude.{None}
 use Rattle.step.specs.Lists.{beside}
 use Rattle.step.specs.Calls.{most_calls, most_values, most_armed}
 use Rattle.step.specs.Verdicts.{outcome_of, verdict_in}
@@ -22,7 +22,7 @@ zero_arms = record { count = 0; triples = replicate most_armed 0 }
 
 -- "an all-zero state"
 abbrev pub zero_state : WatchState
-zero_state = record { main = 0; variables = replicate most_variables 0; opened = 0; calls = replicate most_calls zero_call; arms = replicate most_calls zero_arms; position = 0; outcome = Open }
+zero_state = record { main = 0; variables = replicate most_variables 0; opened = 0; calls = replicate most_calls zero_call; arms = replicate most_calls zero_arms; position = 0; outcome = None }
 
 abbrev pub pad_arms : List ℕ → Arms
 pad_arms l = record { count = length l; triples = fit most_armed 0 l }

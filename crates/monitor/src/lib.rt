@@ -11,8 +11,9 @@ ghost use Rattle.sheet.specs.Answer.{reading_paper, answer};
 ghost use Rattle.step.specs.Calls.{event_of};
 ghost use Rattle.step.specs.Answers.{answer_paper, answer_of, run_paper};
 
-use sheet::{Reading, Record};
-use step::{Answer, Call, Counted, Outcome};
+use refusal::Refusal;
+use sheet::Record;
+use step::{Call, Counted, Verdict};
 
 mod accepted;
 mod pack;
@@ -34,20 +35,20 @@ pub struct WatchState {
     pub calls: [Call; WatchState::CALLS],
     pub arms: [Arms; WatchState::CALLS],
     pub position: u32,
-    pub outcome: Outcome,
+    pub outcome: Option<Verdict>,
 }
 
 // What making a fresh state answers: what reading the sheet answers, and the state.
 #[derive(Clone, Copy)]
 pub struct Fresh {
-    pub reading: Reading,
+    pub reading: Result<(), Refusal>,
     pub state: WatchState,
 }
 
 // What offering an event answers, how much was evaluated, and the state that comes back.
 #[derive(Clone, Copy)]
 pub struct Offered {
-    pub answer: Answer,
+    pub answer: Result<(), Refusal>,
     pub count: u32,
     pub state: WatchState,
 }
@@ -80,7 +81,7 @@ impl WatchState {
                 triples: [0; WatchState::ARMED],
             }; WatchState::CALLS],
             position: 0,
-            outcome: Outcome::Open,
+            outcome: None,
         }
     }
 
@@ -90,12 +91,12 @@ impl WatchState {
         ensures state_value { result.state ≡ fresh_of s.now }
     {
         match sheet::read_sheet(s) {
-            Reading::Accepted => Fresh {
-                reading: Reading::Accepted,
+            Ok(()) => Fresh {
+                reading: Ok(()),
                 state: WatchState::started(s),
             },
-            Reading::Refused(n) => Fresh {
-                reading: Reading::Refused(n),
+            Err(reason) => Fresh {
+                reading: Err(reason),
                 state: WatchState::zero(),
             },
         }
@@ -123,9 +124,9 @@ pub fn offer(s: &[u8], state: WatchState, event: Record, values: &[u32]) -> Offe
 {
     let mut plan = [engine::ABSENT; engine::PLAN];
     match engine::prepare_sheet(s, &mut plan) {
-        Reading::Accepted => accepted::offer_accepted(s, &plan, state, event, values),
-        Reading::Refused(n) => Offered {
-            answer: Answer::Refused(n),
+        Ok(()) => accepted::offer_accepted(s, &plan, state, event, values),
+        Err(reason) => Offered {
+            answer: Err(reason),
             count: 0,
             state,
         },

@@ -9,7 +9,6 @@ ghost use Rattle.monitor.specs.Packed.{running_of, to_numbers, to_triples, call_
 use crate::sound::wide;
 use crate::{Arms, WatchState};
 use engine::Running;
-use step::Outcome;
 
 // What stands beside the calls and variables.
 pub(crate) fn running(state: WatchState) -> Running

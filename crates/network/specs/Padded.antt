@@ -6,7 +6,7 @@ use Rattle.sheet.specs.Parts.{Network}
 use Rattle.sheet.specs.Decode.{network_of}
 use Rattle.sheet.specs.Reading.{reading, network_layout}
 use Rattle.step.specs.declared.Call.{Call}
-use Rattle.step.specs.declared.Outcome.TheVariants.{Open}
+use Rattle.std.specs.Prelude.{None}
 use Rattle.step.specs.Calls.{most_calls, most_values}
 use Rattle.step.specs.Verdicts.{outcome_of, verdict_in}
 use Rattle.step.specs.Padding.{unpad, zero_call, pad_call, padded, is_zero_call}
@@ -25,7 +25,7 @@ most_checkers = 64
 
 -- "an all-zero state"
 abbrev pub zero_state : NetworkState
-zero_state = record { main = 0; variables = replicate most_variables 0; opened = 0; calls = replicate most_calls zero_call; living = 0; checkers = replicate most_checkers zero_checker; position = 0; outcome = Open }
+zero_state = record { main = 0; variables = replicate most_variables 0; opened = 0; calls = replicate most_calls zero_call; living = 0; checkers = replicate most_checkers zero_checker; position = 0; outcome = None }
 
 -- "calls fill the first places ..; unused places and variables are zero"
 unfoldable pub pad : State → NetworkState

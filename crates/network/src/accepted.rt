@@ -14,8 +14,8 @@ ghost use Rattle.network.specs.Padded.{sound_state};
 use crate::sound::wide;
 use crate::{NetworkState, Offered, pack, sound};
 use engine::PLAN;
+use refusal::Refusal;
 use sheet::Record;
-use step::Answer;
 
 pub(crate) fn offer_accepted(
     s: &[u8],
@@ -35,7 +35,7 @@ pub(crate) fn offer_accepted(
         offer_sound(s, plan, state, event, values)
     } else {
         Offered {
-            answer: Answer::Refused(9),
+            answer: Err(Refusal::Unsound),
             count: 0,
             state,
         }
@@ -59,21 +59,21 @@ fn offer_sound(
     let run = pack::running(state);
     let mut row = pack::row(state);
     let mut variables = state.variables;
-    let next = engine::advance(s, plan, run, &mut row, &mut variables, given, &eight);
-    if next.answer == 0 {
-        let programs = sound::broad(plan[1]);
-        let monitors = sound::broad(plan[2]);
-        Offered {
-            answer: Answer::Taken,
-            count: next.count,
-            state: pack::unpack(next.run, &row, &variables, programs, monitors),
+    match engine::advance(s, plan, run, &mut row, &mut variables, given, &eight) {
+        Ok(next) => {
+            let programs = sound::broad(plan[1]);
+            let monitors = sound::broad(plan[2]);
+            Offered {
+                answer: Ok(()),
+                count: next.count,
+                state: pack::unpack(next.run, &row, &variables, programs, monitors),
+            }
         }
-    } else {
-        Offered {
-            answer: Answer::Refused(next.answer),
+        Err(reason) => Offered {
+            answer: Err(reason),
             count: 0,
             state,
-        }
+        },
     }
 }
 

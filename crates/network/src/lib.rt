@@ -11,8 +11,9 @@ ghost use Rattle.network.specs.Answers.{offer_of, run_of, count_of, run_count_of
 ghost use Rattle.network.specs.Network.{fresh};
 ghost use Rattle.network.specs.Padded.{zero_state, pad, fresh_of};
 
-use sheet::{Reading, Record};
-use step::{Answer, Call, Counted, Outcome};
+use refusal::Refusal;
+use sheet::Record;
+use step::{Call, Counted, Verdict};
 
 mod accepted;
 mod entry;
@@ -38,20 +39,20 @@ pub struct NetworkState {
     pub living: u8,
     pub checkers: [Checker; NetworkState::CHECKERS],
     pub position: u32,
-    pub outcome: Outcome,
+    pub outcome: Option<Verdict>,
 }
 
 // What making a fresh state answers: what reading the network answers, and the state.
 #[derive(Clone, Copy)]
 pub struct Fresh {
-    pub reading: Reading,
+    pub reading: Result<(), Refusal>,
     pub state: NetworkState,
 }
 
 // What offering an event answers, how much was evaluated, and the state that comes back.
 #[derive(Clone, Copy)]
 pub struct Offered {
-    pub answer: Answer,
+    pub answer: Result<(), Refusal>,
     pub count: u32,
     pub state: NetworkState,
 }
@@ -86,7 +87,7 @@ impl NetworkState {
                 entry: 0,
             }; NetworkState::CHECKERS],
             position: 0,
-            outcome: Outcome::Open,
+            outcome: None,
         }
     }
 
@@ -96,12 +97,12 @@ impl NetworkState {
         ensures state_value { result.state ≡ fresh_of s.now }
     {
         match sheet::read_network(s) {
-            Reading::Accepted => Fresh {
-                reading: Reading::Accepted,
+            Ok(()) => Fresh {
+                reading: Ok(()),
                 state: NetworkState::started(s),
             },
-            Reading::Refused(n) => Fresh {
-                reading: Reading::Refused(n),
+            Err(reason) => Fresh {
+                reading: Err(reason),
                 state: NetworkState::zero(),
             },
         }
@@ -129,9 +130,9 @@ pub fn offer(s: &[u8], state: NetworkState, event: Record, values: &[u32]) -> Of
 {
     let mut plan = [engine::ABSENT; engine::PLAN];
     match engine::prepare_network(s, &mut plan) {
-        Reading::Accepted => accepted::offer_accepted(s, &plan, state, event, values),
-        Reading::Refused(n) => Offered {
-            answer: Answer::Refused(n),
+        Ok(()) => accepted::offer_accepted(s, &plan, state, event, values),
+        Err(reason) => Offered {
+            answer: Err(reason),
             count: 0,
             state,
         },

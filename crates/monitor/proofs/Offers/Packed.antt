@@ -33,11 +33,10 @@ use Rattle.engine.specs.Machine as Machine
 use Rattle.engine.specs.Machines.{of_sheet}
 use Rattle.engine.specs.declared.Running.{Running}
 use Rattle.engine.specs.declared.Given.{Given}
-use Rattle.engine.specs.declared.Advanced.{Advanced}
 use Rattle.engine.specs.declared.pack.Arms as Engine
 use Rattle.engine.specs.Packed.{words_of, put_at, call_in, arms_in, call_at, arms_at}
 use Rattle.engine.specs.Prepared.{sheet_plan}
-use Rattle.engine.specs.Walk.{Words, words, entries, offer_in, event_count_in, given_of, eight_of}
+use Rattle.engine.specs.Walk.{Answered, Words, words, entries, offer_in, event_count_in, given_of, eight_of}
 use Rattle.engine.specs.Showing.{armed_of, shown_by, Steady, Carries}
 use Rattle.engine.proofs.Packed.{put_length, put_more, call_words_lem, arms_words, out_more, narrow, arms_for, calls_taken, arms_taken, offer_narrow}
 use Rattle.engine.proofs.OnMachines.Keeps.{offer_steady}
@@ -286,7 +285,7 @@ module _ (s : List ℕ) (read : reading sheet_layout s ≡ 0) (w : WatchState) (
 module _ (s plan : List ℕ) (w : WatchState) (event : Record) (values : List ℕ) (pre : (reading sheet_layout s ≡ 0) × (plan ≡ sheet_plan s) × (sound_state (sheet_of s) w ≡ true))
     (given : Given) (eg : (given ≡ given_of (event_of event values)) × (event.number < 65536) × (event.unit < 256)) (eight : List ℕ) (e8 : eight ≡ fit 8 0 values) (run : Running) (er : run ≡ running_of w)
     (row : List ℕ) (ew : (entries w.opened row ≡ call_words w) × (every small (take w.opened w.calls) ≡ true) × (length row ≡ 256))
-    (next : Advanced) (en : next ≡ record { answer = (offer_in s plan (words run row w.variables) given eight).answer; count = event_count_in s plan (words run row w.variables) given eight; run = (offer_in s plan (words run row w.variables) given eight).state.run }) where
+    (next : Answered) (en : next ≡ record { answer = (offer_in s plan (words run row w.variables) given eight).answer; count = event_count_in s plan (words run row w.variables) given eight; run = (offer_in s plan (words run row w.variables) given eight).state.run }) where
   abbrev after : Offered Words
   after = offer_in s (sheet_plan s) (words (running_of w) row w.variables) (given_of (event_of event values)) (fit 8 0 values)
 
@@ -294,14 +293,14 @@ module _ (s plan : List ℕ) (w : WatchState) (event : Record) (values : List �
   came = λ i. offer_in s (pre.1 i) (words (er i) row w.variables) (eg.0 i) (e8 i)
 
   pub few_opened : next.run.opened ≤ 16
-  few_opened = subst (λ (n : ℕ). n ≤ 16) (sym (ap (λ (x : Advanced). x.run.opened) en ∙ ap (λ (o : Offered Words). o.state.run.opened) came)) (opened_there s pre.0 w pre.2 row ew.0 ew.2 (event_of event values))
+  few_opened = subst (λ (n : ℕ). n ≤ 16) (sym (ap (λ (x : Answered). x.run.opened) en ∙ ap (λ (o : Offered Words). o.state.run.opened) came)) (opened_there s pre.0 w pre.2 row ew.0 ew.2 (event_of event values))
 
   answered : next.answer ≡ refusal (sheet_of s) (view (sheet_of s) w) (event_of event values)
-  answered = ap (λ (x : Advanced). x.answer) en ∙ ap (λ (o : Offered Words). o.answer) came ∙ answer_there s pre.0 w pre.2 row ew.0 ew.2 (event_of event values)
+  answered = ap (λ (x : Answered). x.answer) en ∙ ap (λ (o : Offered Words). o.answer) came ∙ answer_there s pre.0 w pre.2 row ew.0 ew.2 (event_of event values)
 
   counted : next.count ≡ count (sheet_of s) (view (sheet_of s) w) (event_of event values)
   counted =
-      ap (λ (x : Advanced). x.count) en
+      ap (λ (x : Answered). x.count) en
       ∙ (λ i. event_count_in s (pre.1 i) (words (er i) row w.variables) (eg.0 i) (e8 i))
       ∙ count_there s pre.0 w pre.2 row ew.0 ew.2 (event_of event values)
 

@@ -3,8 +3,9 @@ use mathlib.Core.Path.{◌≡◌, refl}
 use mathlib.Core.Bool.{true, false}
 use mathlib.Core.List.{List}
 use Prim.Native.Nat.{ℕ}
-use Rattle.sheet.specs.declared.Reading.{Reading}
-use Rattle.sheet.specs.declared.Reading.TheVariants.{Refused}
+use Rattle.std.specs.Prelude.{Result, Err}
+use Rattle.refusal.specs.declared.Refusal.{Refusal}
+use Rattle.refusal.specs.Numbers.{number_of}
 use Rattle.sheet.specs.Decode.{network_of}
 use Rattle.sheet.specs.Reading.{reading, network_layout}
 use Rattle.sheet.specs.Answer.{reading_paper, answer}
@@ -39,7 +40,7 @@ module _ (s : List ℕ) (w : NetworkState) (e : Event) where
           rw (a, h, ← f) (x, (y, refused_count n k _))
 
   -- a network that is not read
-  pub offer_unread : (r : Reading) → reading_paper r ≡ answer (reading network_layout s) → (n : ℕ) → r ≡ Refused n → Comes (declined n) w 0
+  pub offer_unread : (r : Result (Unit {0}) Refusal) → reading_paper r ≡ answer (reading network_layout s) → (n : Refusal) → r ≡ Err n → Comes (declined (number_of n)) w 0
   unfolding offer_of count_of
   offer_unread r er n h =
       let (x, y) = unread_offer (reading network_layout s) r er n h _ w _ in

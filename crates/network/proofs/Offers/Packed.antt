@@ -36,10 +36,9 @@ use Rattle.engine.specs.Machine.{Armed}
 use Rattle.engine.specs.Machines.{of_network}
 use Rattle.engine.specs.declared.Running.{Running}
 use Rattle.engine.specs.declared.Given.{Given}
-use Rattle.engine.specs.declared.Advanced.{Advanced}
 use Rattle.engine.specs.Packed.{words_of, call_in}
 use Rattle.engine.specs.Prepared.{network_plan}
-use Rattle.engine.specs.Walk.{Words, words, entries, offer_in, event_count_in, given_of, eight_of}
+use Rattle.engine.specs.Walk.{Answered, Words, words, entries, offer_in, event_count_in, given_of, eight_of}
 use Rattle.engine.specs.Showing.{armed_of, shown_by, Steady, Carries}
 use Rattle.engine.proofs.Packed.{narrow, calls_taken, offer_narrow}
 use Rattle.engine.proofs.OnMachines.Keeps.{offer_steady}
@@ -273,7 +272,7 @@ module _ (s : List ℕ) (read : reading network_layout s ≡ 0) (short : length 
 module _ (s plan : List ℕ) (w : NetworkState) (event : Record) (values : List ℕ) (pre : (reading network_layout s ≡ 0) × (length s < 65536) × (plan ≡ network_plan s) × (sound_state (network_of s) w ≡ true))
     (given : Given) (eg : (given ≡ given_of (event_of event values)) × (event.number < 65536) × (event.unit < 256)) (eight : List ℕ) (e8 : eight ≡ fit 8 0 values) (run : Running) (er : run ≡ running_of w)
     (row : List ℕ) (ew : (entries w.opened row ≡ call_words w) × (every small (take w.opened w.calls) ≡ true) × (length row ≡ 256))
-    (next : Advanced) (en : next ≡ record { answer = (offer_in s plan (words run row w.variables) given eight).answer; count = event_count_in s plan (words run row w.variables) given eight; run = (offer_in s plan (words run row w.variables) given eight).state.run }) where
+    (next : Answered) (en : next ≡ record { answer = (offer_in s plan (words run row w.variables) given eight).answer; count = event_count_in s plan (words run row w.variables) given eight; run = (offer_in s plan (words run row w.variables) given eight).state.run }) where
   abbrev after : Offered Words
   after = offer_in s (network_plan s) (words (running_of w) row w.variables) (given_of (event_of event values)) (fit 8 0 values)
 
@@ -281,14 +280,14 @@ module _ (s plan : List ℕ) (w : NetworkState) (event : Record) (values : List 
   came = λ i. offer_in s (pre.2 i) (words (er i) row w.variables) (eg.0 i) (e8 i)
 
   pub few_opened : next.run.opened ≤ 16
-  few_opened = subst (λ (n : ℕ). n ≤ 16) (sym (ap (λ (x : Advanced). x.run.opened) en ∙ ap (λ (o : Offered Words). o.state.run.opened) came)) (opened_there s pre.0 pre.1 w pre.3 row ew.0 ew.2 (event_of event values))
+  few_opened = subst (λ (n : ℕ). n ≤ 16) (sym (ap (λ (x : Answered). x.run.opened) en ∙ ap (λ (o : Offered Words). o.state.run.opened) came)) (opened_there s pre.0 pre.1 w pre.3 row ew.0 ew.2 (event_of event values))
 
   answered : next.answer ≡ refusal (network_of s) (view (network_of s) w) (event_of event values)
-  answered = ap (λ (x : Advanced). x.answer) en ∙ ap (λ (o : Offered Words). o.answer) came ∙ answer_there s pre.0 pre.1 w pre.3 row ew.0 ew.2 (event_of event values)
+  answered = ap (λ (x : Answered). x.answer) en ∙ ap (λ (o : Offered Words). o.answer) came ∙ answer_there s pre.0 pre.1 w pre.3 row ew.0 ew.2 (event_of event values)
 
   counted : next.count ≡ count (network_of s) (view (network_of s) w) (event_of event values)
   counted =
-      ap (λ (x : Advanced). x.count) en
+      ap (λ (x : Answered). x.count) en
       ∙ (λ i. event_count_in s (pre.2 i) (words (er i) row w.variables) (eg.0 i) (e8 i))
       ∙ count_there s pre.0 pre.1 w pre.3 row ew.0 ew.2 (event_of event values)
 

@@ -3,8 +3,9 @@ use mathlib.Core.Path.{◌≡◌, refl, ap}
 use mathlib.Core.List.{List}
 use Prim.Native.Nat.{ℕ}
 use Rattle.sheet.specs.declared.Header.{Header}
-use Rattle.sheet.specs.declared.Reading.{Reading}
-use Rattle.sheet.specs.declared.Reading.TheVariants.{Accepted, Refused}
+use Rattle.std.specs.Prelude.{Result, Ok, Err}
+use Rattle.refusal.specs.declared.Refusal.{Refusal}
+use Rattle.refusal.specs.Numbers.{number_of}
 use Rattle.sheet.specs.Table.{table, fit}
 use Rattle.sheet.specs.Decode.{word_form, common_of, network_of}
 use Rattle.sheet.specs.Reading.{reading, network_layout}
@@ -22,12 +23,12 @@ unfolding pad fresh network_of common_of fit
 started_found s h w z e f g = rw (g, f, e, four_of_eight (table word_form (header_of s).monitors s 14))
 
 -- what reading answers settles what is made
-module _ (s : List ℕ) (r : Reading) (e : reading_paper r ≡ answer (reading network_layout s)) (τ : NetworkState) where
-  pub fresh_accepted : r ≡ Accepted → τ ≡ pad (fresh (network_of s)) → (paper.accepted tt ≡ answer (reading network_layout s)) × (τ ≡ fresh_of s)
+module _ (s : List ℕ) (r : Result (Unit {0}) Refusal) (e : reading_paper r ≡ answer (reading network_layout s)) (τ : NetworkState) where
+  pub fresh_accepted : r ≡ Ok tt → τ ≡ pad (fresh (network_of s)) → (paper.accepted tt ≡ answer (reading network_layout s)) × (τ ≡ fresh_of s)
   unfolding fresh_of
   fresh_accepted h f = rw (answer_accepted (reading network_layout s) r e h, f) (refl, refl)
 
-  pub fresh_refused : (m : ℕ) → r ≡ Refused m → τ ≡ zero_state → (paper.refused m ≡ answer (reading network_layout s)) × (τ ≡ fresh_of s)
+  pub fresh_refused : (m : Refusal) → r ≡ Err m → τ ≡ zero_state → (paper.refused (number_of m) ≡ answer (reading network_layout s)) × (τ ≡ fresh_of s)
   unfolding fresh_of
   fresh_refused m h f =
       let (k, g, x) = answer_refused (reading network_layout s) r e m h in

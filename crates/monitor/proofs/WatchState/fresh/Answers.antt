@@ -3,12 +3,12 @@ use Rattle.monitor.proofs.States.Starting.{fresh_accepted, fresh_refused}
 use borrow.Author.Rules.{rules}
 use Rattle.monitor.proofs.WatchState.fresh.Goals as goal
 
-pub returns-in-Accepted : goal.returns-in-Accepted
-returns-in-Accepted c =
+pub returns-in-Ok : goal.returns-in-Ok
+returns-in-Ok c =
     let all = fresh_accepted _ c.read_sheet.result c.read_sheet.ensures _ (search rules) c.started.ensures in
     record { reading_value = all.0; state_value = all.1 }
 
-pub returns-in-Refused : goal.returns-in-Refused
-returns-in-Refused c =
+pub returns-in-Err : goal.returns-in-Err
+returns-in-Err c =
     let all = fresh_refused _ c.read_sheet.result c.read_sheet.ensures _ _ (search rules) c.zero.ensures in
     record { reading_value = all.0; state_value = all.1 }

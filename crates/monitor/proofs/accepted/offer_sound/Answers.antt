@@ -1,4 +1,6 @@
 -- `accepted::offer_sound` meets its contract. Assumes nothing.
+use mathlib.Core.Path.{refl}
+use Rattle.refusal.proofs.Numbers.{number_above}
 use Rattle.monitor.proofs.Offers.Packed.{sound_opened, few_opened, offer_refused, offer_taken}
 use Rattle.monitor.proofs.accepted.offer_sound.Goals as goal
 
@@ -8,17 +10,17 @@ row-row-requires c = sound_opened _ _ c.requires.2
 pub unpack-requires : goal.unpack-requires
 unpack-requires c =
     let a = c.args in
-    few_opened a.s.now a.plan.now a.state a.event a.values.now c.requires _ c.given-given.ensures _ c.eight-eight.ensures _ c.running-run.ensures _ c.row-row.ensures _ c.advance-next.ensures.value
+    few_opened a.s.now a.plan.now a.state a.event a.values.now c.requires _ c.given-given.ensures _ c.eight-eight.ensures _ c.running-run.ensures _ c.row-row.ensures _ c.in-Ok.ensures.value
 
-pub returns-then-next-eq0 : goal.returns-then-next-eq0
-returns-then-next-eq0 c =
+pub returns-in-Ok : goal.returns-in-Ok
+returns-in-Ok c =
     let a = c.args in
-    let all = offer_taken a.s.now a.plan.now a.state a.event a.values.now c.requires _ c.given-given.ensures _ c.eight-eight.ensures _ c.running-run.ensures _ c.row-row.ensures _ c.advance-next.ensures.value
-    c.if-next-eq0.true _ _ c.advance-next.ensures.row_after _ _ c.broad-programs.ensures.0 c.broad-monitors.ensures.0 _ c.unpack.ensures in
+    let all = offer_taken a.s.now a.plan.now a.state a.event a.values.now c.requires _ c.given-given.ensures _ c.eight-eight.ensures _ c.running-run.ensures _ c.row-row.ensures _ c.in-Ok.ensures.value
+    refl _ _ c.in-Ok.ensures.row_after _ _ c.broad-programs.ensures.0 c.broad-monitors.ensures.0 _ c.unpack.ensures in
     record { answer_value = all.0; state_value = all.1.0; count_value = all.1.1 }
 
-pub returns-else-next-eq0 : goal.returns-else-next-eq0
-returns-else-next-eq0 c =
+pub returns-in-Err : goal.returns-in-Err
+returns-in-Err c =
     let a = c.args in
-    let all = offer_refused a.s.now a.plan.now a.state a.event a.values.now c.requires _ c.given-given.ensures _ c.eight-eight.ensures _ c.running-run.ensures _ c.row-row.ensures _ c.advance-next.ensures.value c.if-next-eq0.false in
+    let all = offer_refused a.s.now a.plan.now a.state a.event a.values.now c.requires _ c.given-given.ensures _ c.eight-eight.ensures _ c.running-run.ensures _ c.row-row.ensures _ c.in-Err.ensures.value (number_above _) in
     record { answer_value = all.0; state_value = all.1.0; count_value = all.1.1 }
