@@ -11,8 +11,8 @@ ghost use Rattle.translation.specs.Answer.{translated_paper, translated_of, buff
 ghost use Rattle.lines.specs.Lines.{lines_of};
 ghost use Rattle.embed.specs.Codes.{code_of, first_of, second_of, third_of, fourth_of, or_none, refusal_of, size_of};
 
+use refusal::Refusal;
 use step::{Cause, RunAnswer};
-use translation::Translated;
 
 // An answer as five numbers.
 #[derive(Clone, Copy)]
@@ -115,15 +115,15 @@ pub extern "C" fn watch_lines(input: &[u8], out: &mut [u8]) -> usize
 }
 
 // What translating answered: the refusal, or 0 and how many bytes there are.
-fn hand_over(answer: Translated, size: &mut usize) -> u32
+fn hand_over(answer: Result<usize, Refusal>, size: &mut usize) -> u32
     ensures { (result ≡ refusal_of (translated_paper answer)) × (size.new ≡ size_of (translated_paper answer) size.old) }
 {
     match answer {
-        Translated::Written(n) => {
+        Ok(n) => {
             *size = n;
             0
         }
-        Translated::Refused(n) => n as u32,
+        Err(reason) => u32::from(reason.number()),
     }
 }
 
@@ -148,17 +148,17 @@ fn numbered(answer: RunAnswer) -> Numbers
             third: k as u32,
             fourth: 0,
         },
-        RunAnswer::Refused(n) => Numbers {
+        RunAnswer::Refused(reason) => Numbers {
             code: 2,
-            first: n as u32,
+            first: u32::from(reason.number()),
             second: 0,
             third: 0,
             fourth: 0,
         },
-        RunAnswer::RefusedAt(n, r) => Numbers {
+        RunAnswer::RefusedAt(reason, record) => Numbers {
             code: 3,
-            first: n as u32,
-            second: r,
+            first: u32::from(reason.number()),
+            second: record,
             third: 0,
             fourth: 0,
         },

@@ -9,8 +9,9 @@ use lib.Seq.{sets, take_all}
 use Rattle.step.specs.declared.RunAnswer.{RunAnswer}
 use Rattle.step.specs.Answers as ending
 use Rattle.step.specs.Answers.{Ending, run_paper}
-use Rattle.translation.specs.declared.Translated.{Translated}
-use Rattle.translation.specs.declared.Translated.TheVariants.{Written, Refused}
+use Rattle.std.specs.Prelude.{Result, Ok, Err}
+use Rattle.refusal.specs.declared.Refusal.{Refusal}
+use Rattle.refusal.specs.Numbers.{number_of}
 use Rattle.translation.specs.Answer.{translated_paper, translated_of, buffer_of}
 use Rattle.translation.proofs.Cut.{sheet_accepted, refused_reading, told, cut}
 use Rattle.monitor.specs.Answers as OnSheet
@@ -36,13 +37,13 @@ module _ (i : List ℕ) where
     size_short k = rw (le-ltb (length i) 2 h, ← e, ← f) (omega arith)
 
 -- what translating a sheet answered, and the run on what it left in the buffer
-module _ (s buffer : List ℕ) (t : Translated) (e : translated_paper t ≡ translated_of s buffer) where
-  pub written_run : (n : ℕ) → t ≡ Written n → (last : List ℕ) → last ≡ buffer_of s buffer → (log : List ℕ) (r : Ending) → r ≡ OnNetwork.run_of (take n last) log → r ≡ network_run s log
+module _ (s buffer : List ℕ) (t : Result ℕ Refusal) (e : translated_paper t ≡ translated_of s buffer) where
+  pub written_run : (n : ℕ) → t ≡ Ok n → (last : List ℕ) → last ≡ buffer_of s buffer → (log : List ℕ) (r : Ending) → r ≡ OnNetwork.run_of (take n last) log → r ≡ network_run s log
   written_run n h last f log r g = rw (sheet_accepted s buffer n (told s buffer t e n h)) (g ∙ ap (λ l. OnNetwork.run_of l log) (cut s buffer t e n h last f))
 
-  pub refused_run : 8192 ≤ length buffer → (n : ℕ) → t ≡ Refused n → (log : List ℕ) → ending.refused n ≡ network_run s log
+  pub refused_run : 8192 ≤ length buffer → (n : Refusal) → t ≡ Err n → (log : List ℕ) → ending.refused (number_of n) ≡ network_run s log
   refused_run k n h log =
-      let (m, f, g) = refused_reading s buffer k n (sym e ∙ ap translated_paper h) in
+      let (m, f, g) = refused_reading s buffer k (number_of n) (sym e ∙ ap translated_paper h) in
       rw (f, g)
 
 -- What `lines` promises, from what was stored at the front: "too long", or a line behind another.

@@ -8,6 +8,8 @@ use Rattle.step.specs.declared.Cause.TheVariants.{BadState, Triple, Both}
 use Rattle.step.specs.declared.Verdict.{Verdict}
 use Rattle.step.specs.declared.RunAnswer.{RunAnswer}
 use Rattle.step.specs.declared.RunAnswer.TheVariants.{Violated, Clean, Refused, RefusedAt}
+use Rattle.refusal.specs.declared.Refusal as reason
+use Rattle.refusal.specs.Numbers.{number_of}
 use Rattle.lines.specs.Text.{digit, decimal, violated_text, clean_text, refused_text, state_text, triple_text, entry_text, open_text, at_text, newline, line}
 use Rattle.lines.specs.Walk.{Puts, line_of}
 use Rattle.lines.proofs.Texts.{puts_then, puts_most, puts_near}
@@ -25,12 +27,12 @@ pub says_digits : {o p q : List ℕ} {at m r d : ℕ} (n : ℕ) → 10 ≤ n →
 says_digits n h k e v w = puts_near (rw (decimal_more n h) at (rw e at (puts_then _ _ v w))) (decimal_few n k)
 
 module _ {o p₁ p₂ : List ℕ} {at m₁ r : ℕ} where
-  pub says_refused : (n : ℕ) {v : ℕ} → v ≡ n → Puts o p₁ at (refused_text ++ decimal v) m₁ 30 → Puts p₁ p₂ m₁ newline r 20 → Puts o p₂ at (line_of (Refused n)) r 150
+  pub says_refused : (n : reason.Refusal) {v : ℕ} → v ≡ number_of n → Puts o p₁ at (refused_text ++ decimal v) m₁ 30 → Puts p₁ p₂ m₁ newline r 20 → Puts o p₂ at (line_of (Refused n)) r 150
   unfolding line line_of
   says_refused n e a b = rw (← e) (puts_most (puts_then _ _ a b) (omega arith))
 
   module _ {p₃ : List ℕ} {m₂ : ℕ} where
-    pub says_refused_at : (n k : ℕ) {v : ℕ} → v ≡ n → Puts o p₁ at (refused_text ++ decimal v) m₁ 30 → Puts p₁ p₂ m₁ (at_text ++ decimal k) m₂ 30 → Puts p₂ p₃ m₂ newline r 20 → Puts o p₃ at (line_of (RefusedAt n k)) r 150
+    pub says_refused_at : (n : reason.Refusal) (k : ℕ) {v : ℕ} → v ≡ number_of n → Puts o p₁ at (refused_text ++ decimal v) m₁ 30 → Puts p₁ p₂ m₁ (at_text ++ decimal k) m₂ 30 → Puts p₂ p₃ m₂ newline r 20 → Puts o p₃ at (line_of (RefusedAt n k)) r 150
     unfolding line line_of
     says_refused_at n k e a b c = rw (← e) (puts_most (puts_then _ _ a (puts_then _ _ b c)) (omega arith))
 

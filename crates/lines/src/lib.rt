@@ -8,7 +8,6 @@ ghost use Rattle.monitor.specs.Answers.{run_of};
 ghost use Rattle.lines.specs.Lines.{sheet_size, network_run, lines_of};
 
 use step::RunAnswer;
-use translation::Translated;
 
 mod text;
 
@@ -57,11 +56,11 @@ fn network_run(s: &[u8], log: &[u8]) -> RunAnswer
 {
     let mut buffer = [0u8; 8192];
     match translation::translate(s, &mut buffer) {
-        Translated::Written(n) => {
+        Ok(n) => {
             let ran = network::run(&buffer[..n], log);
             ran.answer
         }
-        Translated::Refused(n) => RunAnswer::Refused(n),
+        Err(reason) => RunAnswer::Refused(reason),
     }
 }
 

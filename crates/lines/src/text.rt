@@ -15,13 +15,13 @@ pub(crate) fn line(out: &mut [u8], at: usize, answer: RunAnswer) -> usize
     match answer {
         RunAnswer::Violated(v) => violated(out, at, v),
         RunAnswer::Clean(n, q, k) => clean(out, at, n, q, k),
-        RunAnswer::Refused(n) => {
-            let next = named(out, at, b"refused ", word(n));
+        RunAnswer::Refused(reason) => {
+            let next = named(out, at, b"refused ", word(reason.number()));
             text(out, next, b"\n")
         }
-        RunAnswer::RefusedAt(n, r) => {
-            let next = named(out, at, b"refused ", word(n));
-            let next = named(out, next, b" at ", r);
+        RunAnswer::RefusedAt(reason, record) => {
+            let next = named(out, at, b"refused ", word(reason.number()));
+            let next = named(out, next, b" at ", record);
             text(out, next, b"\n")
         }
     }

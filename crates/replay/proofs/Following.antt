@@ -23,7 +23,7 @@ use Rattle.network.specs.declared.Offered.{Offered}
 use Rattle.network.specs.Padded.{fresh_of}
 use Rattle.network.specs.Answers.{offer_of}
 use Rattle.agreement.specs.Shown.{follow, offered_to}
-use Rattle.replay.specs.declared.ReplayAnswer.TheVariants as answer
+use Rattle.std.specs.Prelude.{Ok}
 use Rattle.replay.specs.Replay.{offered, number_of}
 use Rattle.replay.specs.Walk.{Replays}
 
@@ -74,13 +74,13 @@ module _ (n : List ℕ) (P : ℕ) (log o : List ℕ) (size end : ℕ) where
     pub offering_long : length out ≡ length o
     offering_long = simp length-sets at (ap length g.answers)
 
-    pub offering_end : end ≤ at → Replays 0 (records_in P log) (offered_to n (events_of P log)) o (record { answer = answer.Offered i; state = w }) out
+    pub offering_end : end ≤ at → Replays 0 (records_in P log) (offered_to n (events_of P log)) o (record { answer = Ok i; state = w }) out
     unfolding follow records
     offering_end h = go g.left g.ends g.count g.state g.answers
       where
         go : (left : ℕ) → at + record_size P * left ≡ end → i + left ≡ records_in P log → (follow (offer_of n) w (table (event_form P) left log at)).state ≡ (offered_to n (events_of P log)).state
             → sets out i (map number_of (follow (offer_of n) w (table (event_form P) left log at)).answers) ≡ sets o 0 (map number_of (offered_to n (events_of P log)).answers)
-            → Replays 0 (records_in P log) (offered_to n (events_of P log)) o (record { answer = answer.Offered i; state = w }) out
+            → Replays 0 (records_in P log) (offered_to n (events_of P log)) o (record { answer = Ok i; state = w }) out
         go zero e c s a =
             let all : i ≡ records_in P log = omega arith in
             record { answer = ap offered all; state = s; answers = a }

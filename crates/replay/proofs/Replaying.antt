@@ -5,8 +5,9 @@ use Prim.Native.Nat.{ℕ, suc, ◌≤◌}
 use native.Mathlib.Omega.{arith}
 use lib.ListN.{length, take}
 use lib.Seq.{sets}
-use Rattle.sheet.specs.declared.LogReading.{LogReading}
-use Rattle.sheet.specs.declared.LogReading.TheVariants as log
+use Rattle.std.specs.Prelude.{Result, Ok, Err}
+use Rattle.refusal.specs.declared.Refusal.{Refusal}
+use Rattle.refusal.specs.Numbers.{number_of}
 use Rattle.sheet.specs.Bytes.{byte}
 use Rattle.sheet.specs.Decode.{common_of}
 use Rattle.sheet.specs.Reading.{sheet_layout}
@@ -14,8 +15,6 @@ use Rattle.sheet.specs.Log.{log_reading, records_in, events_of}
 use Rattle.sheet.specs.Answer.{log_paper, read_of}
 use Rattle.sheet.proofs.Accepted.{accepted, bounds}
 use Rattle.sheet.proofs.Answers.{log_read, log_refused}
-use Rattle.translation.specs.declared.Translated.{Translated}
-use Rattle.translation.specs.declared.Translated.TheVariants.{Written, Refused}
 use Rattle.translation.specs.Answer.{translated_paper, translated_of, buffer_of}
 use Rattle.translation.proofs.Cut.{sheet_accepted, refused_reading, told}
 use Rattle.network.specs.declared.NetworkState.{NetworkState}
@@ -33,17 +32,17 @@ module _ (r : Replayed) (n : ℕ) (e : (replay_paper r.answer ≡ refused n) × 
   turned_away refusal f count followed o = rw f (record { answer = e.0 ∙ ap refused g; state = e.1; answers = refl })
 
 -- What reading a log answered.
-module _ (P : ℕ) (l : List ℕ) (t : LogReading) (e : log_paper t ≡ read_of (log_reading P l) (records_in P l)) where
-  pub log_accepted : (m : ℕ) → t ≡ log.Records m → log_reading P l ≡ 0
+module _ (P : ℕ) (l : List ℕ) (t : Result ℕ Refusal) (e : log_paper t ≡ read_of (log_reading P l) (records_in P l)) where
+  pub log_accepted : (m : ℕ) → t ≡ Ok m → log_reading P l ≡ 0
   log_accepted m h = log_read (log_reading P l) (records_in P l) t e m h
 
-  pub log_replayed : (m : ℕ) → t ≡ log.Records m → (followed : Followed NetworkState) (o : List ℕ) (r : Replayed) (p : List ℕ) → Replays 0 (records_in P l) followed o r p → Replays (log_reading P l) (records_in P l) followed o r p
+  pub log_replayed : (m : ℕ) → t ≡ Ok m → (followed : Followed NetworkState) (o : List ℕ) (r : Replayed) (p : List ℕ) → Replays 0 (records_in P l) followed o r p → Replays (log_reading P l) (records_in P l) followed o r p
   log_replayed m h followed o r p v = rw (log_accepted m h) v
 
-  pub log_turned_away : (m : ℕ) → t ≡ log.Refused m → (followed : Followed NetworkState) (o : List ℕ) (r : Replayed) → (replay_paper r.answer ≡ refused m) × (r.state ≡ zero_state) → Replays (log_reading P l) (records_in P l) followed o r o
+  pub log_turned_away : (m : Refusal) → t ≡ Err m → (followed : Followed NetworkState) (o : List ℕ) (r : Replayed) → (replay_paper r.answer ≡ refused (number_of m)) × (r.state ≡ zero_state) → Replays (log_reading P l) (records_in P l) followed o r o
   log_turned_away m h followed o r v =
       let (k, f, g) = log_refused (log_reading P l) (records_in P l) t e m h in
-      turned_away r m v k g (log_reading P l) f (records_in P l) followed o
+      turned_away r (number_of m) v k g (log_reading P l) f (records_in P l) followed o
 
 -- What `replay` promises.
 module _ (s l : List ℕ) where
@@ -60,8 +59,8 @@ module _ (s l : List ℕ) where
     promised v = (v.answer, (v.state, v.answers))
 
 -- What translating the sheet answered.
-module _ (s buffer : List ℕ) (t : Translated) (e : translated_paper t ≡ translated_of s buffer) where
-  module _ (n : ℕ) (h : t ≡ Written n) where
+module _ (s buffer : List ℕ) (t : Result ℕ Refusal) (e : translated_paper t ≡ translated_of s buffer) where
+  module _ (n : ℕ) (h : t ≡ Ok n) where
     pub few_programs_lem : (P : ℕ) → P ≡ byte s 5 → P ≤ 8
     unfolding common_of
     few_programs_lem P f = omega (arith, (bounds (accepted sheet_layout s (sheet_accepted s buffer n (told s buffer t e n h)))).programs)
@@ -78,8 +77,8 @@ module _ (s buffer : List ℕ) (t : Translated) (e : translated_paper t ≡ tran
           let read : Replays (log_reading (byte s 5) l) (records_in (byte s 5) l) (offered_to (take n last) (events_of (byte s 5) l)) o r p = subst (λ (k : ℕ). Replays (log_reading k l) (records_in k l) (offered_to (take n last) (events_of k l)) o r p) g v in
           promised s l o r p (rw (sheet_accepted s buffer n (told s buffer t e n h), ← offered_defined) read)
 
-  pub refused_turned_away : 8192 ≤ length buffer → (n : ℕ) → t ≡ Refused n → (l o : List ℕ) (r : Replayed) → (replay_paper r.answer ≡ refused n) × (r.state ≡ zero_state) → Promised s l o r o
+  pub refused_turned_away : 8192 ≤ length buffer → (n : Refusal) → t ≡ Err n → (l o : List ℕ) (r : Replayed) → (replay_paper r.answer ≡ refused (number_of n)) × (r.state ≡ zero_state) → Promised s l o r o
   unfolding replay_refusal
   refused_turned_away k n h l o r v =
-      let (m, g, f) = refused_reading s buffer k n (sym e ∙ ap translated_paper h) in
-      promised s l o r o (turned_away r n v m g (replay_refusal s l) (rw f) (records_in (byte s 5) l) (defined_for s l) o)
+      let (m, g, f) = refused_reading s buffer k (number_of n) (sym e ∙ ap translated_paper h) in
+      promised s l o r o (turned_away r (number_of n) v m g (replay_refusal s l) (rw f) (records_in (byte s 5) l) (defined_for s l) o)

@@ -1,7 +1,7 @@
 -- The records of a log offered to a sheet's network (document 01, "Network layout and translation"): "Demand 3's list holds calls that offer one event to a
 -- network, whatever its kind, unit, call number and values, and no others. All use the network as translating wrote it, cut to its length. The first gets the fresh
 -- state made from it, each later one the state handed back before, untouched between." What comes of it is said here from the sheet and the log alone.
-use Rattle.std.specs.Prelude.{List, [], map, ℕ, zero, suc}
+use Rattle.std.specs.Prelude.{List, [], map, ℕ, zero, suc, Result, Ok, Err}
 use Rattle.sheet.specs.Bytes.{byte}
 use Rattle.sheet.specs.Decode.{sheet_of}
 use Rattle.sheet.specs.Reading.{or_else, reading, sheet_layout}
@@ -12,17 +12,17 @@ use Rattle.network.specs.declared.NetworkState.{NetworkState}
 use Rattle.network.specs.Padded.{zero_state, pad}
 use Rattle.network.specs.Grouped.{ungrouped}
 use Rattle.agreement.specs.Shown.{Followed, defined}
-use Rattle.replay.specs.declared.ReplayAnswer.{ReplayAnswer}
-use Rattle.replay.specs.declared.ReplayAnswer.TheVariants as answer
+use Rattle.refusal.specs.declared.Refusal.{Refusal}
+use Rattle.refusal.specs.Numbers as Numbers
 
 -- The paper's words for the answer: how many records were offered, or the refusal's number.
 pub data Replaying : Type 0 where
   offered : ℕ → Replaying
   refused : ℕ → Replaying
 
-abbrev pub replay_paper : ReplayAnswer → Replaying
-replay_paper (answer.Offered n) = offered n
-replay_paper (answer.Refused n) = refused n
+abbrev pub replay_paper : Result ℕ Refusal → Replaying
+replay_paper (Ok n) = offered n
+replay_paper (Err r) = refused (Numbers.number_of r)
 
 -- by the number of the refusal; 0 stands for none
 abbrev pub replay_with : ℕ → ℕ → Replaying

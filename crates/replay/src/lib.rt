@@ -3,6 +3,7 @@
 
 ghost use Rattle.std.specs.Prelude.{◌≡◌, ◌+◌, ◌≤◌, ◌<◌, set, drop};
 ghost use Rattle.std.proofs.lemmas.List.Edits.{sets};
+ghost use Rattle.refusal.specs.Numbers as Numbers;
 ghost use Rattle.sheet.specs.Log.{record_size, event_form, log_reading, records_in, events_of};
 ghost use Rattle.step.specs.Answers.{answer_paper, answer_of};
 ghost use Rattle.network.specs.Answers.{offer_of};
@@ -12,21 +13,12 @@ ghost use Rattle.replay.specs.Replay.{replay_paper, refused, number_of, replay_o
 ghost use Rattle.replay.specs.Walk.{Replays};
 
 use network::{NetworkState, Offered};
-use sheet::LogReading;
-use step::Answer;
-use translation::Translated;
+use refusal::Refusal;
 
-// What replaying answers: how many records were offered, or the refusal.
-#[derive(Clone, Copy)]
-pub enum ReplayAnswer {
-    Offered(u32),
-    Refused(u8),
-}
-
-// The answer, and the state after the last record.
+// What replaying answers, how many records were offered, and the state after the last.
 #[derive(Clone, Copy)]
 pub struct Replayed {
-    pub answer: ReplayAnswer,
+    pub answer: Result<u32, Refusal>,
     pub state: NetworkState,
 }
 
@@ -41,11 +33,11 @@ pub fn replay(sheet: &[u8], log: &[u8], answers: &mut [u8]) -> Replayed
 {
     let mut buffer = [0u8; 8192];
     match translation::translate(sheet, &mut buffer) {
-        Translated::Written(n) => {
+        Ok(n) => {
             let programs = sheet::byte_at(sheet, 5);
             on_network(&buffer[..n], log, programs, answers)
         }
-        Translated::Refused(n) => turned_away(n),
+        Err(reason) => turned_away(reason),
     }
 }
 
@@ -55,17 +47,17 @@ fn on_network(network: &[u8], log: &[u8], programs: u8, answers: &mut [u8]) -> R
     ensures { Replays (log_reading programs log.now) (records_in programs log.now) (offered_to network.now (events_of programs log.now)) answers.old result answers.new }
 {
     match sheet::read_log(log, programs) {
-        LogReading::Records(_) => offer_all(network, log, programs, answers),
-        LogReading::Refused(n) => turned_away(n),
+        Ok(_) => offer_all(network, log, programs, answers),
+        Err(reason) => turned_away(reason),
     }
 }
 
 // A refusal, with the all-zero state.
-fn turned_away(n: u8) -> Replayed
-    ensures { (replay_paper result.answer ≡ refused n) × (result.state ≡ zero_state) }
+fn turned_away(reason: Refusal) -> Replayed
+    ensures { (replay_paper result.answer ≡ refused (Numbers.number_of reason)) × (result.state ≡ zero_state) }
 {
     Replayed {
-        answer: ReplayAnswer::Refused(n),
+        answer: Err(reason),
         state: NetworkState::zero(),
     }
 }
@@ -91,7 +83,7 @@ fn offer_all(network: &[u8], log: &[u8], programs: u8, answers: &mut [u8]) -> Re
         at += size;
     }
     Replayed {
-        answer: ReplayAnswer::Offered(i),
+        answer: Ok(i),
         state,
     }
 }
@@ -116,12 +108,12 @@ fn offer_at(network: &[u8], state: NetworkState, log: &[u8], at: u32, programs: 
 }
 
 // An answer as a number.
-fn number(answer: Answer) -> u8
+fn number(answer: Result<(), Refusal>) -> u8
     ensures { result ≡ number_of (answer_paper answer) }
 {
     match answer {
-        Answer::Taken => 0,
-        Answer::Refused(n) => n,
+        Ok(()) => 0,
+        Err(reason) => reason.number(),
     }
 }
 

@@ -1,4 +1,5 @@
 -- `text::line` meets its contract. Assumes nothing.
+use mathlib.Core.Path.{◌∙◌}
 use borrow.Author.Rules.{rules}
 use Rattle.lines.proofs.Saying.{says_answer, says_refused, says_refused_at}
 use Rattle.lines.proofs.text.line.Goals as goal
@@ -10,7 +11,7 @@ pub returns-in-Clean : goal.returns-in-Clean
 returns-in-Clean c = says_answer (search rules) c.clean.ensures
 
 pub returns-in-Refused : goal.returns-in-Refused
-returns-in-Refused c = says_answer (search rules) (says_refused _ c.word.ensures.0 c.named-next.ensures c.text.ensures)
+returns-in-Refused c = says_answer (search rules) (says_refused _ (c.word.ensures.0 ∙ c.number.ensures) c.named-next.ensures c.text.ensures)
 
 pub returns-in-RefusedAt : goal.returns-in-RefusedAt
-returns-in-RefusedAt c = says_answer (search rules) (says_refused_at _ _ c.word-in-RefusedAt.ensures.0 c.named-next-in-RefusedAt.ensures c.named-next-in-RefusedAt-2.ensures c.text-in-RefusedAt.ensures)
+returns-in-RefusedAt c = says_answer (search rules) (says_refused_at _ _ (c.word-in-RefusedAt.ensures.0 ∙ c.number-in-RefusedAt.ensures) c.named-next-in-RefusedAt.ensures c.named-next-in-RefusedAt-2.ensures c.text-in-RefusedAt.ensures)
