@@ -1,4 +1,5 @@
 -- Lists, arrays that hold them, and the loops over both.
+pub mod Alike
 pub mod Lists
 pub mod Keeping
 pub mod Sums

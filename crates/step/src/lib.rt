@@ -1,7 +1,7 @@
 // What the engines on a sheet and on a network share.
 #![tactic(auto)]
 
-ghost use Rattle.std.specs.Prelude.{◌≡◌, ◌&&◌, ◌<◌, eqb, take};
+ghost use Rattle.std.specs.Prelude.{◌≡◌, ◌&&◌, eqb};
 ghost use Rattle.step.specs.Lists.{any, place_of};
 
 pub mod outcomes;
@@ -60,59 +60,30 @@ pub struct Call {
     pub kept: [u32; VALUES],
 }
 
-// Where the call of a number stands among the first `opened` of sixteen, or `opened`.
-pub fn call_place(calls: [Call; CALLS], opened: usize, number: u16) -> usize
-    ensures { result ≡ place_of (λ c. eqb c.number number) (take opened calls) }
+// Where the call of a number stands, or how many there are.
+pub fn call_place(calls: &[Call], number: u16) -> usize
+    ensures { result ≡ place_of (λ c. eqb c.number number) calls.now }
 {
-    let mut i = 0;
-    while i < opened {
-        if i < CALLS {
-            let c = calls[i];
-            if c.number == number {
-                return i;
-            }
-        } else {
-            return i;
-        }
-        i += 1;
-    }
-    i
+    calls
+        .iter()
+        .position(|c| c.number == number)
+        .unwrap_or(calls.len())
 }
 
-// Whether a call of a number is open for a unit among the first `opened` of sixteen.
-pub fn call_open_for(calls: [Call; CALLS], opened: usize, number: u16, unit: u8) -> bool
-    ensures { result ≡ any (λ c. eqb c.number number && eqb c.unit unit) (take opened calls) }
+// Whether a call of a number is open for a unit.
+pub fn call_open_for(calls: &[Call], number: u16, unit: u8) -> bool
+    ensures { result ≡ any (λ c. eqb c.number number && eqb c.unit unit) calls.now }
 {
-    let mut i = 0;
-    while i < opened {
-        if i < CALLS {
-            let c = calls[i];
-            if (c.number == number) & (c.unit == unit) {
-                return true;
-            }
-        } else {
-            return false;
-        }
-        i += 1;
-    }
-    false
+    calls
+        .iter()
+        .any(|c| (c.number == number) & (c.unit == unit))
 }
 
-// Whether a call of a number that was entered at a position is among the first `opened` of sixteen.
-pub fn call_entered_at(calls: [Call; CALLS], opened: usize, number: u16, entry: u32) -> bool
-    ensures { result ≡ any (λ c. eqb c.number number && eqb c.entry entry) (take opened calls) }
+// Whether a call of a number that was entered at a position is there.
+pub fn call_entered_at(calls: &[Call], number: u16, entry: u32) -> bool
+    ensures { result ≡ any (λ c. eqb c.number number && eqb c.entry entry) calls.now }
 {
-    let mut i = 0;
-    while i < opened {
-        if i < CALLS {
-            let c = calls[i];
-            if (c.number == number) & (c.entry == entry) {
-                return true;
-            }
-        } else {
-            return false;
-        }
-        i += 1;
-    }
-    false
+    calls
+        .iter()
+        .any(|c| (c.number == number) & (c.entry == entry))
 }

@@ -1,12 +1,12 @@
-// Rows of calls: the first `opened` of sixteen places, with zeros behind them.
+// Rows of calls, and the zeros behind what is there.
 
-ghost use Rattle.std.specs.Prelude.{◌≡◌, true, cond, ◌&&◌, map, ◌≤◌, eqb, length, take, drop};
+ghost use Rattle.std.specs.Prelude.{◌≡◌, ◌&&◌, map, eqb};
 ghost use Rattle.sheet.specs.Table.{every, fit};
-ghost use Rattle.step.specs.Lists.{distinct, place_of, rising};
-ghost use Rattle.step.specs.Calls.{most_values, none_zero, none_above, entries_sound};
+ghost use Rattle.step.specs.Lists.{any, distinct};
+ghost use Rattle.step.specs.Calls.{most_values, entries_sound};
 ghost use Rattle.step.specs.Padding.{zero_call, clear, padded, is_zero_call};
 
-use crate::{CALLS, Call, VALUES};
+use crate::{Call, VALUES};
 
 // The place of no call.
 pub fn no_call() -> Call
@@ -25,15 +25,8 @@ pub fn eight(values: &[u32]) -> [u32; VALUES]
     ensures { result ≡ fit most_values 0 values.now }
 {
     let mut out = [0u32; VALUES];
-    let mut i = 0;
-    while i < values.len() {
-        if i < VALUES {
-            out[i] = values[i];
-        } else {
-            return out;
-        }
-        i += 1;
-    }
+    let n = values.len().min(VALUES);
+    out[..n].copy_from_slice(&values[..n]);
     out
 }
 
@@ -41,186 +34,69 @@ pub fn eight(values: &[u32]) -> [u32; VALUES]
 pub fn clear_from(values: &[u32], from: usize) -> bool
     ensures { result ≡ clear from values.now }
 {
-    let mut i = from;
-    while i < values.len() {
-        if values[i] == 0 {} else {
-            return false;
-        }
-        i += 1;
-    }
-    true
+    values.iter().skip(from).all(|v| *v == 0)
 }
 
 // Whether a call keeps zeros from a value's number on.
-fn keeps_clear(call: Call, from: usize) -> bool
-    ensures { (result ≡ clear from call.kept) × (length call.kept ≡ most_values) }
+fn keeps_clear(call: &Call, from: usize) -> bool
+    ensures { result ≡ padded most_values from call.now.kept }
 {
-    let k = call.kept;
-    zero_from(0 < from, k[0])
-        & (zero_from(1 < from, k[1])
-            & (zero_from(2 < from, k[2])
-                & (zero_from(3 < from, k[3])
-                    & (zero_from(4 < from, k[4])
-                        & (zero_from(5 < from, k[5])
-                            & (zero_from(6 < from, k[6]) & zero_from(7 < from, k[7])))))))
-}
-
-// Whether a value that is not one of the first is zero.
-fn zero_from(first: bool, n: u32) -> bool
-    ensures { result ≡ cond first true (eqb n 0) }
-{
-    if first { true } else { n == 0 }
+    clear_from(&call.kept, from)
 }
 
 // Whether it is the place of no call.
-fn is_no_call(call: Call) -> bool
-    ensures { (result ≡ is_zero_call call) × (length call.kept ≡ most_values) }
+fn is_no_call(call: &Call) -> bool
+    ensures { result ≡ (padded most_values 0 call.now.kept && is_zero_call call.now) }
 {
-    let clear = keeps_clear(call, 0);
-    (call.number == 0) & ((call.unit == 0) & ((call.entry == 0) & clear))
+    (call.number == 0) & ((call.unit == 0) & ((call.entry == 0) & keeps_clear(call, 0)))
 }
 
-// Whether the first `opened` calls keep zeros from a value's number on.
-pub fn kept_clear(calls: [Call; CALLS], opened: usize, from: usize) -> bool
-    ensures { result ≡ every (λ c. padded most_values from c.kept) (take opened calls) }
+// Whether all calls keep zeros from a value's number on.
+pub fn kept_clear(calls: &[Call], from: usize) -> bool
+    ensures { result ≡ every (λ c. padded most_values from c.kept) calls.now }
 {
-    let mut i = 0;
-    while i < opened {
-        if i < CALLS {
-            if keeps_clear(calls[i], from) {} else {
-                return false;
-            }
-        } else {
-            return true;
-        }
-        i += 1;
-    }
-    true
+    calls.iter().all(|c| keeps_clear(c, from))
 }
 
-// Whether there is no call from a place on.
-pub fn calls_clear(calls: [Call; CALLS], from: usize) -> bool
-    ensures { result ≡ every (λ c. padded most_values 0 c.kept && is_zero_call c) (drop from calls) }
+// Whether there is no call.
+pub fn calls_clear(places: &[Call]) -> bool
+    ensures { result ≡ every (λ c. padded most_values 0 c.kept && is_zero_call c) places.now }
 {
-    let mut i = from;
-    while i < CALLS {
-        if is_no_call(calls[i]) {} else {
+    places.iter().all(|c| is_no_call(c))
+}
+
+// Whether all calls have different numbers.
+pub fn numbers_distinct(calls: &[Call]) -> bool
+    ensures { result ≡ distinct (map (λ c. c.number) calls.now) }
+{
+    for i in 0..calls.len() {
+        if is_number_among(calls[i].number, &calls[i + 1..]) {
             return false;
         }
-        i += 1;
     }
     true
 }
 
-// Whether the first `opened` calls have different numbers.
-pub fn numbers_distinct(calls: [Call; CALLS], opened: usize) -> bool
-    ensures { result ≡ distinct (map (λ c. c.number) (take opened calls)) }
+fn is_number_among(number: u16, calls: &[Call]) -> bool
+    ensures { result ≡ any (eqb number) (map (λ c. c.number) calls.now) }
 {
-    let numbers = numbers_of(calls);
-    all_distinct(&numbers[..], opened)
+    calls.iter().any(|c| number == c.number)
 }
 
-// The numbers of the calls: they are looked through without the rest.
-fn numbers_of(calls: [Call; CALLS]) -> [u32; CALLS]
-    ensures { result ≡ map (λ c. c.number) calls }
+// Whether the positions of the calls' entries are sound at a position: from 1 to it, each above the one
+// before.
+pub fn entries_sound(calls: &[Call], position: u32) -> bool
+    ensures { result ≡ entries_sound position (map (λ c. c.entry) calls.now) }
 {
-    let mut out = [0u32; CALLS];
-    let mut i = 0;
-    while i < CALLS {
-        let c = calls[i];
-        out[i] = c.number as u32;
-        i += 1;
-    }
-    out
-}
-
-// Whether the positions of the entries of the first `opened` calls are sound at a position.
-pub fn entries_sound(calls: [Call; CALLS], opened: usize, position: u32) -> bool
-    ensures { result ≡ entries_sound position (map (λ c. c.entry) (take opened calls)) }
-{
-    let entries = entries_of(calls);
-    all_within(&entries[..], opened, position) & rising(&entries[..], opened)
-}
-
-// The positions of the calls' entries, without the rest.
-fn entries_of(calls: [Call; CALLS]) -> [u32; CALLS]
-    ensures { result ≡ map (λ c. c.entry) calls }
-{
-    let mut out = [0u32; CALLS];
-    let mut i = 0;
-    while i < CALLS {
-        let c = calls[i];
-        out[i] = c.entry;
-        i += 1;
-    }
-    out
-}
-
-// Whether each of the first n numbers is below the next.
-fn rising(numbers: &[u32], n: usize) -> bool
-    ensures { result ≡ rising (take n numbers.now) }
-{
-    let mut i = 1;
-    while i < n {
-        if i < numbers.len() {
-            if numbers[i - 1] < numbers[i] {} else {
-                return false;
-            }
-        } else {
-            return true;
+    let mut last = 0;
+    for c in calls {
+        if c.entry <= last {
+            return false;
         }
-        i += 1;
+        if position < c.entry {
+            return false;
+        }
+        last = c.entry;
     }
     true
-}
-
-// Whether the first n numbers are from 1 to another.
-fn all_within(numbers: &[u32], n: usize, most: u32) -> bool
-    ensures { result ≡ (none_zero (take n numbers.now) && none_above most (take n numbers.now)) }
-{
-    let mut i = 0;
-    while i < n {
-        if i < numbers.len() {
-            if (1 <= numbers[i]) & (numbers[i] <= most) {} else {
-                return false;
-            }
-        } else {
-            return true;
-        }
-        i += 1;
-    }
-    true
-}
-
-// Whether the first n numbers are different.
-fn all_distinct(numbers: &[u32], n: usize) -> bool
-    ensures { result ≡ distinct (map (λ m. m) (take n numbers.now)) }
-{
-    let mut i = 0;
-    while i < n {
-        if i < numbers.len() {
-            if place_in(numbers, i, numbers[i]) == i {} else {
-                return false;
-            }
-        } else {
-            return true;
-        }
-        i += 1;
-    }
-    true
-}
-
-// Where a number stands among the first n, or n.
-fn place_in(numbers: &[u32], n: usize, number: u32) -> usize
-    requires { n ≤ length numbers.now }
-    ensures { result ≡ place_of (λ m. eqb m number) (take n numbers.now) }
-{
-    let mut i = 0;
-    while i < n {
-        if numbers[i] == number {
-            return i;
-        }
-        i += 1;
-    }
-    i
 }

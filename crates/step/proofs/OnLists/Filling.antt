@@ -1,8 +1,8 @@
 -- Filling an array with the elements of a list, or with those that pass a test. Assumes nothing.
-use mathlib.Core.Path.{◌≡◌, subst, ◌∙◌}
+use mathlib.Core.Path.{◌≡◌, refl, ap, subst, ◌∙◌}
 use mathlib.Core.Bool.{Bool, true, false}
-use mathlib.Core.List.{List, [], ◌∷◌}
-use Prim.Native.Nat.{ℕ, suc, ◌+◌, ◌≤◌, ◌<◌}
+use mathlib.Core.List.{List, [], ◌∷◌, ◌++◌}
+use Prim.Native.Nat.{ℕ, zero, suc, ◌+◌, ◌≤◌, ◌<◌, min}
 use native.Mathlib.Numerals.{add-one}
 use native.Mathlib.Omega.{arith}
 use lib.ListN.{length, get_or, set, take, drop, replicate, length-set, length-take, length-replicate, drop_of_length-le}
@@ -40,6 +40,20 @@ module _ {A : Type 0} (n : ℕ) (d : A) (whole : List A) where
   -- the next element of a list that is gone through by its places
   pub filling_next : (out : List A) (j : ℕ) (l : List A) (i : ℕ) (e : A) → Filling n d whole out j (drop i l) → i < length l → Filling n d whole (set out j (get_or l i e)) (j + 1) (drop (i + 1) l)
   filling_next out j l i e g h = rw (add-one i) (filling_store out j (get_or l i e) (drop (suc i) l) (rw (drop-cons l i e h) at g))
+
+-- as many as there is room for, and d behind them
+module _ {A : Type 0} (d : A) where
+  fit_none : (k : ℕ) → replicate k d ≡ fit k d []
+  unfolding fit
+  fit_none zero = refl
+  fit_none (suc k) = ap (λ (l : List A). d ∷ l) (fit_none k)
+
+  pub fit_front : (k : ℕ) (l : List A) (n : ℕ) → n ≡ min (length l) k → take n l ++ drop n (replicate k d) ≡ fit k d l
+  unfolding fit
+  fit_front zero l n h = let z : n ≡ 0 = omega (arith, h) in rw z refl
+  fit_front (suc k) [] n h = let z : n ≡ 0 = omega (arith, h) in rw z (fit_none (suc k))
+  fit_front (suc k) (x ∷ l) zero h = absurd (omega (arith, h))
+  fit_front (suc k) (x ∷ l) (suc n) h = ap (λ (m : List A). x ∷ m) (fit_front k l n (omega (arith, h)))
 
 -- The elements that pass a test, from a place on.
 module _ {A : Type 0} (p : A → Bool) (l : List A) (i : ℕ) where

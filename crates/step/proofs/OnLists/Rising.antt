@@ -5,14 +5,25 @@ use mathlib.Core.List.{List, [], ◌∷◌, ◌++◌, map}
 use Prim.Native.Nat.{ℕ, zero, suc, ◌+◌, ◌-◌, ◌≤◌, ◌<◌}
 use native.Mathlib.Numerals.{add-one, sub-one}
 use native.Mathlib.Omega.{arith}
-use borrow.Author.Tests.{ltb-true, lt-ltb, le-ltb}
-use lib.Dec.{ltb}
-use lib.ListN.{length, get_or, take, drop, length-take, length-drop}
+use borrow.Author.Tests.{ltb-true, lt-ltb, le-ltb, le-leb, lt-leb}
+use lib.Dec.{ltb, leb}
+use lib.ListN.{length, get_or, take, drop, length-take, length-drop, drop_of_length-le}
 use lib.Seq.{drop-cons, get_or-take}
 use Rattle.sheet.specs.Table.{every}
 use Rattle.sheet.proofs.Tables.{and_parts, and_both, every_weaker, every_append, every_map}
 use Rattle.step.specs.Lists.{keep, rising}
+use Rattle.step.specs.Calls.{none_zero, none_above, entries_sound}
 use Rattle.step.proofs.OnLists.Keeping.{every_keep}
+
+and_comm : (a b : Bool) → (a && b) ≡ (b && a)
+and_comm true true = refl
+and_comm true false = refl
+and_comm false true = refl
+and_comm false false = refl
+
+and_false : (a : Bool) → (a && false) ≡ false
+and_false true = refl
+and_false false = refl
 
 -- Numbers rise if each is below the next.
 pub rising_pair : (x y : ℕ) (l : List ℕ) → rising (x ∷ y ∷ l) ≡ (ltb x y && rising (y ∷ l))
@@ -52,40 +63,51 @@ rising_more (x ∷ l) n h k =
     let (a, b) = and_parts (ltb x n) (every (λ m. ltb m n) l) k in
     and_both (every_append (ltb x) l (n ∷ []) ∙ and_both i (and_both a refl)) (rising_more l n j b)
 
--- The first `n` of a row, tested up to the one before i.
-pub record Rising (row : List ℕ) (n i : ℕ) : Type 0 where
-  pub same : rising (drop (i - 1) (take n row)) ≡ rising (take n row)
-  pub low : 0 < i
+-- What is left of some numbers, behind the last that was seen, settles whether all of them are sound.
+module _ (most : ℕ) (all : List ℕ) where
+  abbrev pub Climbs : ℕ → List ℕ → Type 0
+  Climbs last rest = (rising (last ∷ rest) && none_above most rest) ≡ entries_sound most all
 
-module _ (row : List ℕ) (n : ℕ) where
-  pub rising_start : Rising row n 1
-  rising_start = record { same = refl; low = omega arith }
+  turned : (a b c : Bool) → ((a && b) && c) ≡ ((a && c) && b)
+  turned true b c = and_comm b c
+  turned false b c = refl
 
-  module _ (i : ℕ) (g : Rising row n i) where
-    pub rising_end : n ≤ i → true ≡ rising (take n row)
-    rising_end h = sym (rising_short (drop (i - 1) (take n row)) (omega (arith, length-drop (i - 1) (take n row), length-take n row, g.low))) ∙ g.same
+  pub climbs_start : Climbs 0 all
+  unfolding rising
+  climbs_start = turned (none_zero all) (rising all) (none_above most all)
 
-    pub rising_far : length row ≤ i → true ≡ rising (take n row)
-    rising_far h = sym (rising_short (drop (i - 1) (take n row)) (omega (arith, length-drop (i - 1) (take n row), length-take n row, g.low))) ∙ g.same
+  pub climbs_end : (last : ℕ) → Climbs last [] → true ≡ entries_sound most all
+  unfolding rising every
+  climbs_end last g = g
 
-  rising_here : (j : ℕ) → suc j < n → suc j < length row → rising (drop j (take n row)) ≡ (ltb (get_or row j 0) (get_or row (suc j) 0) && rising (drop (suc j) (take n row)))
-  rising_here j h k =
-      let l = take n row in
-      let long = length-take n row in
-      let e = drop-cons l j 0 (omega arith) in
-      let f = drop-cons l (suc j) 0 (omega arith) in
-      ap rising (e ∙ ap (λ (m : List ℕ). get_or l j 0 ∷ m) f) ∙ rising_pair (get_or l j 0) (get_or l (suc j) 0) (drop (suc (suc j)) l) ∙ rw (← f, get_or-take n row j 0 (omega arith), get_or-take n row (suc j) 0 h)
+  module _ (last x : ℕ) (rest : List ℕ) (g : Climbs last (x ∷ rest)) where
+    unfolded : ((ltb last x && rising (x ∷ rest)) && (leb x most && none_above most rest)) ≡ entries_sound most all
+    unfolding every
+    unfolded = ap (λ (b : Bool). b && (leb x most && none_above most rest)) (sym (rising_pair last x rest)) ∙ g
 
-  pub rising_next : (i : ℕ) → Rising row n i → i < n → i < length row → get_or row (i - 1) 0 < get_or row i 0 → Rising row n (i + 1)
-  rising_next zero g h k t = absurd (omega (arith, g.low))
-  rising_next (suc j) g h k t =
-      let s : rising (drop j (take n row)) ≡ rising (take n row) = rw (sub-one (suc j)) at g.same in
-      let u : get_or row j 0 < get_or row (suc j) 0 = rw (sub-one (suc j)) at t in
-      record { same = rw (add-one (suc j), sub-one (suc (suc j))) (rw (rising_here j h k, lt-ltb (get_or row j 0) (get_or row (suc j) 0) u) at s); low = omega arith }
+    pub climbs_next : last < x → x ≤ most → Climbs x rest
+    climbs_next h k = rw (lt-ltb last x h, le-leb x most k) at unfolded
 
-  pub rising_fails : (i : ℕ) → Rising row n i → i < n → i < length row → get_or row i 0 ≤ get_or row (i - 1) 0 → false ≡ rising (take n row)
-  rising_fails zero g h k t = absurd (omega (arith, g.low))
-  rising_fails (suc j) g h k t =
-      let s : rising (drop j (take n row)) ≡ rising (take n row) = rw (sub-one (suc j)) at g.same in
-      let u : get_or row (suc j) 0 ≤ get_or row j 0 = rw (sub-one (suc j)) at t in
-      rw (rising_here j h k, le-ltb (get_or row j 0) (get_or row (suc j) 0) u) at s
+    pub climbs_low : x ≤ last → false ≡ entries_sound most all
+    climbs_low h = rw (le-ltb last x h) at unfolded
+
+    pub climbs_high : most < x → false ≡ entries_sound most all
+    climbs_high h = sym (and_false (ltb last x && rising (x ∷ rest))) ∙ (rw (lt-leb x most h) at unfolded)
+
+-- The same over a row, by a number of each element.
+module _ {A : Type 0} (f : A → ℕ) (row : List A) (most last i : ℕ) (g : Climbs most (map f row) last (map f (drop i row))) where
+  pub climbing_end : length row ≤ i → true ≡ entries_sound most (map f row)
+  climbing_end h = climbs_end most (map f row) last (rw (drop_of_length-le row h) at g)
+
+  module _ (d : A) (h : i < length row) where
+    here : Climbs most (map f row) last (f (get_or row i d) ∷ map f (drop (suc i) row))
+    here = rw (drop-cons row i d h) at g
+
+    pub climbing_next : last < f (get_or row i d) → f (get_or row i d) ≤ most → Climbs most (map f row) (f (get_or row i d)) (map f (drop (i + 1) row))
+    climbing_next a b = rw (add-one i) (climbs_next most (map f row) last (f (get_or row i d)) (map f (drop (suc i) row)) here a b)
+
+    pub climbing_low : f (get_or row i d) ≤ last → false ≡ entries_sound most (map f row)
+    climbing_low a = climbs_low most (map f row) last (f (get_or row i d)) (map f (drop (suc i) row)) here a
+
+    pub climbing_high : most < f (get_or row i d) → false ≡ entries_sound most (map f row)
+    climbing_high a = climbs_high most (map f row) last (f (get_or row i d)) (map f (drop (suc i) row)) here a

@@ -1,20 +1,14 @@
 -- `rows::clear_from` meets its contract. Assumes nothing.
-use mathlib.Core.Path.{refl}
-use borrow.Author.Tests.{eq-eqb, ne_eqb}
-use lib.Dec.{eqb}
+use Rattle.std.proofs.Common.{◌∙◌, ℕ, eqb, rules, tests}
+use Rattle.std.proofs.lemmas.Iterator.{YieldsList-from_slice}
+use Rattle.std.proofs.lemmas.Iterator.Adapters.{YieldsList-from_skip}
+use Rattle.std.proofs.lemmas.Iterator.Search.{all_from_yields_List}
 use Rattle.step.specs.Padding.{clear}
-use Rattle.step.proofs.OnLists.Turns.{every_end, every_next, every_fails}
+use Rattle.step.proofs.OnLists.Alike.{all_every}
 use Rattle.step.proofs.rows.clear_from.Goals as goal
 
-pub loop-i-init : goal.loop-i-init
-unfolding clear
-loop-i-init c = refl
-
-pub returns-else-values-i-eq0 : goal.returns-else-values-i-eq0
-returns-else-values-i-eq0 c = every_fails (λ x. eqb x 0) _ _ _ c.loop-i.invariant _ c.loop-i-test.true (ne_eqb _ _ c.if-values-i-eq0.false)
-
-pub loop-i-preserved : goal.loop-i-preserved
-loop-i-preserved c = every_next (λ x. eqb x 0) _ _ _ c.loop-i.invariant _ c.loop-i-test.true (eq-eqb _ _ c.if-values-i-eq0.true)
-
 pub returns : goal.returns
-returns c = every_end (λ x. eqb x 0) _ _ _ c.loop-i.invariant c.loop-i-test.false
+unfolding clear
+returns c =
+    all_from_yields_List (λ (x : ℕ). eqb x 0) _ _ c.all.result c.all.ensures.ran (YieldsList-from_skip c.args.from (YieldsList-from_slice c.args.values.now cc) cc) (λ x b q k. search (rules, tests))
+    ∙ all_every _ _
