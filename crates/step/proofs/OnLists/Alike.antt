@@ -6,6 +6,13 @@ use lib.ListN.{drop_of_length-le, length-drop}
 use lib.Seq.{drop-cons, take_all}
 use Rattle.std.specs.Option.{unwrap_or}
 use Rattle.std.specs.List.{list_all, list_any, position_or_len}
+use Rattle.std.specs.Option.{MatchOption}
+use Rattle.std.specs.List.{FoldsTo}
+use Rattle.std.specs.Fn.{Called}
+use Rattle.std.specs.Iterator.{YieldsThen}
+use Rattle.std.proofs.lemmas.Iterator.{YieldsList}
+use Rattle.std.proofs.lemmas.Iterator.Search.{all_from_yields_List, any_from_yields_List}
+use denote.Param.Members.{Mut}
 use Rattle.sheet.specs.Table.{every}
 use Rattle.step.specs.Lists.{any, place_of, distinct}
 
@@ -66,3 +73,13 @@ module _ {A : Type 0} (f : A → ℕ) (row : List A) (i : ℕ) (g : distinct (ma
 
     pub distinct_fails : b ≡ true → false ≡ distinct (map f row)
     distinct_fails z = rw z at unfolded
+
+-- What a chain's `all` and `any` answer, by the definitions' words.
+module _ {S A B F : Type 0} {steps : S → Option A → S → Type 0} {v : A → B} {g : Mut F (A × Unit {0}) Bool} {s : S} {all : List B} (test : B → Bool) (u : S) (f : F) (r : Bool) where
+  pub every_from_all : (xs : List A) × (o : Option A) × (j : F) × YieldsThen steps s xs o u × FoldsTo (λ p x q. Called g p (x, tt) true q) f xs j × MatchOption o (r ≡ true) (λ x. (r ≡ false) × ((h : F) × Called g j (x, tt) false h))
+      → YieldsList steps v s all → ((x : A) (b : Bool) (q : F) → Called g f (x, tt) b q → (q ≡ f) × (b ≡ test (v x))) → r ≡ every test all
+  every_from_all ran yields k = all_from_yields_List test u f r ran yields k ∙ all_every test all
+
+  pub any_from_any : (xs : List A) × (o : Option A) × (j : F) × YieldsThen steps s xs o u × FoldsTo (λ p x q. Called g p (x, tt) false q) f xs j × MatchOption o (r ≡ false) (λ x. (r ≡ true) × ((h : F) × Called g j (x, tt) true h))
+      → YieldsList steps v s all → ((x : A) (b : Bool) (q : F) → Called g f (x, tt) b q → (q ≡ f) × (b ≡ test (v x))) → r ≡ any test all
+  any_from_any ran yields k = any_from_yields_List test u f r ran yields k ∙ any_any test all

@@ -1,5 +1,5 @@
 -- Numbers that rise, and the loop that tests whether they do. Assumes nothing.
-use mathlib.Core.Path.{◌≡◌, refl, sym, ap, ◌∙◌}
+use mathlib.Core.Path.{◌≡◌, refl, sym, ap, subst, ◌∙◌}
 use mathlib.Core.Bool.{Bool, true, false, cond, ◌&&◌, false≢true}
 use mathlib.Core.List.{List, [], ◌∷◌, ◌++◌, map}
 use Prim.Native.Nat.{ℕ, zero, suc, ◌+◌, ◌-◌, ◌≤◌, ◌<◌}
@@ -9,6 +9,7 @@ use borrow.Author.Tests.{ltb-true, lt-ltb, le-ltb, le-leb, lt-leb}
 use lib.Dec.{ltb, leb}
 use lib.ListN.{length, get_or, take, drop, length-take, length-drop, drop_of_length-le}
 use lib.Seq.{drop-cons, get_or-take}
+use Rattle.std.specs.List.{IsAllAdjacentAnswer}
 use Rattle.sheet.specs.Table.{every}
 use Rattle.sheet.proofs.Tables.{and_parts, and_both, every_weaker, every_append, every_map}
 use Rattle.step.specs.Lists.{keep, rising}
@@ -62,6 +63,22 @@ rising_more (x ∷ l) n h k =
     let (i, j) = and_parts (every (ltb x) l) (rising l) h in
     let (a, b) = and_parts (ltb x n) (every (λ m. ltb m n) l) k in
     and_both (every_append (ltb x) l (n ∷ []) ∙ and_both i (and_both a refl)) (rising_more l n j b)
+
+-- The library's answer on neighbours.
+rising_all : (l : List ℕ) → ((k d : ℕ) → suc k < length l → ltb (get_or l k d) (get_or l (suc k) d) ≡ true) → rising l ≡ true
+rising_all [] h = rising_short [] (omega arith)
+rising_all (x ∷ []) h = rising_short (x ∷ []) (omega arith)
+rising_all (x ∷ y ∷ l) h = rising_pair x y l ∙ and_both (h 0 0 (omega arith)) (rising_all (y ∷ l) (λ k d q. h (suc k) d (omega arith)))
+
+rising_not : (l : List ℕ) (k : ℕ) → suc k < length l → ((d : ℕ) → ltb (get_or l k d) (get_or l (suc k) d) ≡ false) → rising l ≡ false
+rising_not [] k h e = absurd (omega arith)
+rising_not (x ∷ []) k h e = absurd (omega arith)
+rising_not (x ∷ y ∷ l) zero h e = rising_pair x y l ∙ ap (λ (b : Bool). b && rising (y ∷ l)) (e 0)
+rising_not (x ∷ y ∷ l) (suc k) h e = rising_pair x y l ∙ ap (λ (b : Bool). ltb x y && b) (rising_not (y ∷ l) k (omega arith) e) ∙ and_false (ltb x y)
+
+pub rising_answer : (l : List ℕ) (r : Bool) → IsAllAdjacentAnswer (λ x y b. b ≡ ltb x y) l r → r ≡ rising l
+rising_answer l true h = sym (rising_all l (λ k d q. sym (subst (λ (m : ℕ). true ≡ ltb (get_or l k d) (get_or l m d)) (add-one k) (h k d (omega arith)))))
+rising_answer l false (k, q, h) = sym (rising_not l k (omega arith) (λ d. sym (subst (λ (m : ℕ). false ≡ ltb (get_or l k d) (get_or l m d)) (add-one k) (h d))))
 
 -- What is left of some numbers, behind the last that was seen, settles whether all of them are sound.
 module _ (most : ℕ) (all : List ℕ) where

@@ -1,12 +1,10 @@
 -- `call_open_for` meets its contract. Assumes nothing.
-use Rattle.std.proofs.Common.{◌∙◌, ◌&&◌, eqb, rules, tests}
+use Rattle.std.proofs.Common.{◌&&◌, eqb, rules, tests}
 use Rattle.std.proofs.lemmas.Iterator.{YieldsList-from_slice}
-use Rattle.std.proofs.lemmas.Iterator.Search.{any_from_yields_List}
 use Rattle.step.specs.declared.Call.{Call}
-use Rattle.step.proofs.OnLists.Alike.{any_any}
+use Rattle.step.proofs.OnLists.Alike.{any_from_any}
 use Rattle.step.proofs.call_open_for.Goals as goal
 
 pub returns : goal.returns
 returns c =
-    any_from_yields_List (λ (x : Call). eqb x.number c.args.number && eqb x.unit c.args.unit) _ _ c.any.result c.any.ensures.ran (YieldsList-from_slice c.args.calls.now cc) (λ x b q k. search (rules, tests))
-    ∙ any_any _ c.args.calls.now
+    any_from_any (λ (x : Call). eqb x.number c.args.number && eqb x.unit c.args.unit) _ _ c.any.result c.any.ensures.ran (YieldsList-from_slice c.args.calls.now cc) (λ x b q k. search (rules, tests))
