@@ -2,12 +2,12 @@
 use mathlib.Core.Path.{◌≡◌, refl, sym, ap, ap₂, ◌∙◌}
 use mathlib.Core.Bool.{Bool, true, false, ◌&&◌}
 use mathlib.Core.List.{List, [], ◌∷◌, map}
-use Prim.Native.Nat.{ℕ, zero, suc, ◌≤◌, ◌<◌}
+use Prim.Native.Nat.{ℕ, zero, suc, ◌≤◌, ◌<◌, min}
 use native.Mathlib.Omega.{arith}
-use borrow.Author.Tests.{eq-eqb, le-leb}
+use borrow.Author.Tests.{eq-eqb, le-leb, lt-leb, leb-true, leb-false}
 use lib.Dec.{eqb, leb, ltb}
 use lib.ListN.{length, get_or, take, drop, length-take, length-map}
-use lib.Seq.{length-take-le}
+use lib.Seq.{length-take-le, take_all}
 use Rattle.sheet.specs.declared.Triple.{Triple}
 use Rattle.sheet.specs.Table.{every}
 use Rattle.sheet.specs.Parts.{Sheet}
@@ -35,12 +35,16 @@ use Rattle.step.specs.Calls.{entries_sound}
 pub length_mapped : (A B : Type 0) (f : A → B) (l : List A) (n : ℕ) → length (map f l) ≡ n → length l ≡ n
 length_mapped A B f l n e = sym (length-map l f) ∙ e
 
--- that of the first of a row is that of the first of what is taken
-first_same : (f : ℕ → ℕ) (n : ℕ) (l : List ℕ) → every (λ i. eqb (f i) (f (get_or l 0 0))) (take n l) ≡ every (λ i. eqb (f i) (f (get_or (take n l) 0 0))) (take n l)
-unfolding every
-first_same f zero l = refl
-first_same f (suc n) [] = refl
-first_same f (suc n) (x ∷ l) = refl
+-- as many as there are
+take_least : (n : ℕ) (l : List ℕ) → take (min n (length l)) l ≡ take n l
+take_least n l = go (leb n (length l)) refl
+  where
+    go : (b : Bool) → leb n (length l) ≡ b → take (min n (length l)) l ≡ take n l
+    go true e = let h = leb-true n (length l) e in let k : min n (length l) ≡ n = omega arith in ap (λ (j : ℕ). take j l) k
+    go false e =
+        let h = leb-false n (length l) e in
+        let k : min n (length l) ≡ length l = omega arith in
+        ap (λ (j : ℕ). take j l) k ∙ take_all (length l) l (omega arith) ∙ sym (take_all n l (omega arith))
 
 pub triples_in : (s : List ℕ) → length (sheet_of s).triples ≡ last_in s
 unfolding sheet_of
@@ -54,27 +58,28 @@ module _ {s : List ℕ} (a : Accepted sheet_layout s) where
       every_same (λ i. ltb i (last_in s) && eqb (triple_at s (last_at transition_form s) i).unit unit) (λ i. ltb i (length (sheet_of s).triples) && eqb (triple_in (sheet_of s) i).unit unit)
       (λ i. ap₂ (λ (n : ℕ) (t : Triple). ltb i n && eqb t.unit unit) (sym (triples_in s)) (triple_there a i)) l
 
-  state_same : (n : ℕ) (l : List ℕ)
-      → every (λ i. eqb (triple_at s (last_at transition_form s) i).state (triple_at s (last_at transition_form s) (get_or l 0 0)).state) (take n l) ≡ of_one_state (sheet_of s) (take n l)
-  state_same n l =
+  state_same : (l : List ℕ) → every (λ i. eqb (triple_at s (last_at transition_form s) i).state (triple_at s (last_at transition_form s) (get_or l 0 0)).state) l ≡ of_one_state (sheet_of s) l
+  state_same l =
       every_same (λ i. eqb (triple_at s (last_at transition_form s) i).state (triple_at s (last_at transition_form s) (get_or l 0 0)).state) (λ i. eqb (triple_in (sheet_of s) i).state (triple_in (sheet_of s) (get_or l 0 0)).state)
-      (λ i. ap₂ (λ (t u : Triple). eqb t.state u.state) (triple_there a i) (triple_there a (get_or l 0 0))) (take n l)
-      ∙ first_same (λ i. (triple_in (sheet_of s) i).state) n l
+      (λ i. ap₂ (λ (t u : Triple). eqb t.state u.state) (triple_there a i) (triple_there a (get_or l 0 0))) l
 
 -- a call with what is armed for it
-pub call_is : (s : List ℕ) (t : Tables) → (reading sheet_layout s ≡ 0) × (t ≡ tables_of s) → (call : Call) (arms : Arms) → length arms.triples ≡ 4
-    → (q : Bool) → (q ≡ ltb call.unit t.header.units) × (length call.kept ≡ 8) → (w : ℕ) → (w ≡ arms.count) × (w < 256) → (r : Bool) → r ≡ rising (take w arms.triples)
-    → (u : Bool) → u ≡ every (λ i. ltb i t.header.last && eqb (triple_at s t.triples i).unit call.unit) (take w arms.triples)
-    → (o : Bool) → o ≡ every (λ i. eqb (triple_at s t.triples i).state (triple_at s t.triples (get_or arms.triples 0 0)).state) (take w arms.triples)
-    → (q && (r && (u && o))) ≡ call_sound (sheet_of s) (unpad_armed t.header.programs call arms)
+pub call_is : (s : List ℕ) (t : Tables) → (reading sheet_layout s ≡ 0) × (t ≡ tables_of s) → (call : Call) (arms : Arms) → length arms.triples ≡ 4 → length call.kept ≡ 8
+    → (n : ℕ) → n ≡ min arms.count 4
+    → (r : Bool) → r ≡ rising (take n arms.triples)
+    → (u : Bool) → u ≡ every (λ i. ltb i t.header.last && eqb (triple_at s t.triples i).unit call.unit) (take n arms.triples)
+    → (o : Bool) → o ≡ every (λ i. eqb (triple_at s t.triples i).state (triple_at s t.triples (get_or (take n arms.triples) 0 0)).state) (take n arms.triples)
+    → (ltb call.unit t.header.units && (r && (u && o))) ≡ call_sound (sheet_of s) (unpad_armed t.header.programs call arms)
 unfolding call_sound sheet_of common_of
-call_is s t (h, e) call arms long q (v, kept) w (f, g) r x u y o z =
+call_is s t (h, e) call arms long kept n f r x u y o z =
     let a = accepted sheet_layout s h in
     let P = (common_of s).programs in
     let few : P ≤ 8 = (bounds a).programs in
+    let l = take arms.count arms.triples in
     let k : eqb (length (take P call.kept)) P ≡ true = eq-eqb (length (take P call.kept)) P (length-take-le P call.kept (omega arith)) in
-    let m : leb (length (take arms.count arms.triples)) 4 ≡ true = le-leb (length (take arms.count arms.triples)) 4 (omega (arith, length-take arms.count arms.triples)) in
-    rw (v, x, y, z, e, f, k, m, unit_same a call.unit (take arms.count arms.triples), state_same a arms.count arms.triples)
+    let m : leb (length l) 4 ≡ true = le-leb (length l) 4 (omega (arith, length-take arms.count arms.triples)) in
+    let all : take n arms.triples ≡ l = ap (λ (j : ℕ). take j arms.triples) (f ∙ ap (min arms.count) (sym long)) ∙ take_least arms.count arms.triples in
+    rw (x, y, z, all, e, k, m, unit_same a call.unit l, state_same a l)
 
 between : (k z t a : Bool) → ((k && z) && (t && a)) ≡ (k && (t && (z && a)))
 between true true t a = refl
@@ -114,21 +119,27 @@ module _ (S : Sheet) (w : WatchState) (v : length w.variables ≡ 4) (long : len
       let judged = verdict_sound S w.main w.position (verdict_in w.outcome) in
       rw (k, m, d, i) (ap (λ (b : Bool). ltb w.main S.common.states && b) (and_assoc apart (entered && every (call_sound S) row) judged ∙ ap (λ (b : Bool). apart && b) (and_assoc entered (every (call_sound S) row) judged)))
 
+-- more calls than there are places for
+pub sound_crowded : (S : Sheet) (w : WatchState) → 16 < w.opened → false ≡ sound_state S w
+unfolding sound_state
+sound_crowded S w h = rw (lt-leb w.opened 16 h) refl
+
 -- all tests of a state
 pub sound_is : (s : List ℕ) (t : Tables) → (reading sheet_layout s ≡ 0) × (t ≡ tables_of s)
-    → (w : WatchState) (o : ℕ) → (o ≡ w.opened) × (length w.variables ≡ 4) × (length w.calls ≡ 16) × (length w.arms ≡ 16)
-    → (m : ℕ) → (m ≡ t.header.monitors) × (m < 256) → (p : ℕ) → (p ≡ t.header.programs) × (p < 256)
-    → (b₁ : Bool) → b₁ ≡ clear m w.variables
-    → (b₂ : Bool) → b₂ ≡ every (λ (c : Call). padded 8 p c.kept) (take o w.calls)
-    → (b₃ : Bool) → b₃ ≡ every (λ (c : Call). padded 8 0 c.kept && is_zero_call c) (drop o w.calls)
+    → (w : WatchState) → w.opened ≤ 16 → (length w.variables ≡ 4) × (length w.calls ≡ 16) × (length w.arms ≡ 16)
+    → (calls no-calls : List Call) → calls ≡ take w.opened w.calls → no-calls ≡ drop w.opened w.calls
+    → (arms no-arms : List Arms) → arms ≡ take w.opened w.arms → no-arms ≡ drop w.opened w.arms
+    → (b₁ : Bool) → b₁ ≡ clear t.header.monitors w.variables
+    → (b₂ : Bool) → b₂ ≡ every (λ (c : Call). padded 8 t.header.programs c.kept) calls
+    → (b₃ : Bool) → b₃ ≡ every (λ (c : Call). padded 8 0 c.kept && is_zero_call c) no-calls
     → (b₄ : Bool) → b₄ ≡ every tidy_arms w.arms
-    → (b₅ : Bool) → b₅ ≡ every is_zero_arms (drop o w.arms)
-    → (b₆ : Bool) → b₆ ≡ distinct (map (λ (c : Call). c.number) (take o w.calls))
-    → (b₉ : Bool) → b₉ ≡ entries_sound w.position (map (λ (c : Call). c.entry) (take o w.calls))
-    → (b₇ : Bool) → b₇ ≡ every (call_sound (sheet_of s)) (beside (unpad_armed t.header.programs) (take o w.calls) (take o w.arms))
+    → (b₅ : Bool) → b₅ ≡ every is_zero_arms no-arms
+    → (b₆ : Bool) → b₆ ≡ distinct (map (λ (c : Call). c.number) calls)
+    → (b₉ : Bool) → b₉ ≡ entries_sound w.position (map (λ (c : Call). c.entry) calls)
+    → (b₇ : Bool) → b₇ ≡ every (call_sound (sheet_of s)) (beside (unpad_armed t.header.programs) calls arms)
     → (b₈ : Bool) → b₈ ≡ verdict_fits t.header.bad t.header.last w.main w.position (verdict_in w.outcome)
-    → (leb o 16 && ((b₁ && ((b₂ && b₃) && (b₄ && b₅))) && (ltb w.main t.header.states && ((b₆ && (b₉ && b₇)) && b₈)))) ≡ sound_state (sheet_of s) w
+    → ((b₁ && ((b₂ && b₃) && (b₄ && b₅))) && (ltb w.main t.header.states && ((b₆ && (b₉ && b₇)) && b₈))) ≡ sound_state (sheet_of s) w
 unfolding sound_state sheet_of common_of
-sound_is s t (h, e) w o (f, v, long, same) m (g, mm) p (k, pp) b₁ e₁ b₂ e₂ b₃ e₃ b₄ e₄ b₅ e₅ b₆ e₆ b₉ e₉ b₇ e₇ b₈ e₈ =
+sound_is s t (h, e) w few (v, long, same) calls no-calls ec en arms no-arms ea em b₁ e₁ b₂ e₂ b₃ e₃ b₄ e₄ b₅ e₅ b₆ e₆ b₉ e₉ b₇ e₇ b₈ e₈ =
     let a = accepted sheet_layout s h in
-    rw (← tidy_parts (sheet_of s) w v long same, ← sound_parts (sheet_of s) w v long same (bounds a).monitors, triples_in s, e₁, e₂, e₃, e₄, e₅, e₆, e₉, e₇, e₈, f, g, k, e)
+    rw (← tidy_parts (sheet_of s) w v long same, ← sound_parts (sheet_of s) w v long same (bounds a).monitors, triples_in s, le-leb w.opened 16 few, e₁, e₂, e₃, e₄, e₅, e₆, e₉, e₇, e₈, ec, en, ea, em, e)

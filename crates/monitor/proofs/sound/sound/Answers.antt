@@ -1,10 +1,19 @@
 -- `sound::sound` meets its contract. Assumes nothing.
-use Rattle.monitor.proofs.SoundTests.Checks.{sound_is}
+use mathlib.Core.Path.{◌≡◌}
+use borrow.Author.Rules.{rules}
+use lib.ListN.{length}
+use Rattle.monitor.proofs.SoundTests.Checks.{length_mapped, sound_is, sound_crowded}
 use Rattle.monitor.proofs.sound.sound.Goals as goal
+
+pub returns-then-opened-gt-CALLS : goal.returns-then-opened-gt-CALLS
+returns-then-opened-gt-CALLS c = sound_crowded _ _ (search rules)
 
 pub returns : goal.returns
 returns c =
-    let a = c.args in
-    sound_is a.s.now a.t c.requires a.state _ c.opened_in-opened.ensures _ c.wide-2.ensures _ c.wide.ensures
-    _ c.clear_from.ensures _ c.kept_clear.ensures _ c.calls_clear.ensures _ c.arms_tidy.ensures
+    let w = c.args.state in
+    let v : length w.variables ≡ 4 = search rules in
+    let long : length w.calls ≡ 16 = search (rules, length_mapped) in
+    let same : length w.arms ≡ 16 = search (rules, length_mapped) in
+    sound_is c.args.s.now c.args.t c.requires w (search rules) (v, long, same) _ _ (search rules) (search rules) _ _ (search rules) (search rules)
+    _ (search rules) _ (search rules) _ c.calls_clear.ensures _ c.arms_tidy.ensures
     _ c.arms_clear.ensures _ c.numbers_distinct.ensures _ c.entries_sound-entries.ensures _ c.calls_sound.ensures _ c.outcome_fits-rest.ensures
