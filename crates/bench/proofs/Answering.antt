@@ -14,8 +14,9 @@ use Rattle.std.specs.Prelude.{Option, None as none, Some as some, Ok, is_some, u
 use Rattle.bench.specs.declared.parts.Part.TheVariants.{Condition as a_condition}
 use Rattle.bench.specs.declared.parts.Pending.{Pending}
 use Rattle.bench.specs.Bench.{is_test_condition, precedes, IsFirst, IsNext, NoneGreater, in_range, padded, all_zero, is_given, next_refusal, FirstAnswer, NextAnswer}
-use Rattle.bench.specs.Walk.{one_condition, completed, following, accepts, stored, IsSmall}
-use Rattle.bench.proofs.Tests.{and_parts, and_true}
+use Rattle.bench.specs.Walk.{one_condition, completed, following, accepts, stored}
+use Rattle.std.proofs.lemmas.Bool.{and_parts, and_from}
+use Rattle.std.specs.Cmp.{both_ways}
 use Rattle.bench.proofs.LeastBytes.InOrder.{counted, admits}
 use Rattle.bench.proofs.LeastBytes.Holding.{fit_out}
 use Rattle.bench.proofs.LeastBytes.Finding.{accepts_admits, LeastOf, completed_least, NextAdmitted, following_finds}
@@ -27,7 +28,7 @@ module _ (n : ℕ) (s : List ℕ) where
   test_in h = let (a, b) = and_parts (eqb (length s) n) (admits start s) (sym (test_admits n s) ∙ h) in (eqb-true (length s) n a, b)
 
   pub test_out : length s ≡ n → admits start s ≡ true → is_test_condition n s ≡ true
-  test_out e a = test_admits n s ∙ and_true (eq-eqb (length s) n e) a
+  test_out e a = test_admits n s ∙ and_from _ _ (eq-eqb (length s) n e) a
 
 pub range_parts : (n : ℕ) → in_range n ≡ true → (1 ≤ n) × (n ≤ 8)
 range_parts n h = let (a, b) = and_parts (leb 1 n) (leb n 8) h in (leb-true 1 n a, leb-true n 8 b)
@@ -60,7 +61,7 @@ module _ (n : ℕ) (range : in_range n ≡ true) where
     next_is r e =
         let f : NextAdmitted start g (some r) = subst (NextAdmitted start g) e found in
         record {
-          passes = and_true (test_out n r (f.long ∙ long) f.is) f.meets;
+          passes = and_from _ _ (test_out n r (f.long ∙ long) f.is) f.meets;
           least = λ t e.
               let (a, b) = and_parts (is_test_condition n t) (precedes g t) e in
               let (l, m) = test_in n t a in
@@ -99,7 +100,7 @@ zero_eight (suc k) (suc n) = zero_eight k n
 all_zero_in : (l : List ℕ) → All (λ b. b ≡ 0) l → all_zero l ≡ true
 unfolding all_zero
 all_zero_in [] a = refl
-all_zero_in (b ∷ l) a = and_true (eq-eqb b 0 (a 0 0 (omega arith))) (all_zero_in l (λ k d h. a (suc k) d (omega arith)))
+all_zero_in (b ∷ l) a = and_from _ _ (eq-eqb b 0 (a 0 0 (omega arith))) (all_zero_in l (λ k d h. a (suc k) d (omega arith)))
 
 all_zero_out : (l : List ℕ) → all_zero l ≡ true → All (λ b. b ≡ 0) l
 unfolding all_zero
@@ -107,12 +108,7 @@ all_zero_out [] h = λ k d l. absurd (omega arith)
 all_zero_out (b ∷ l) h = let (x, y) = and_parts (eqb b 0) (all_zero l) h in All-cons (λ c. c ≡ 0) b l (eqb-true b 0 x) (all_zero_out l y)
 
 clear_zero : (l : List ℕ) {t : Bool} → IsTrue t ↔ All (λ b. b ≡ 0) l → t ≡ all_zero l
-clear_zero l {t} (f, g) = go t (all_zero l) (λ e. all_zero_in l (f e)) (λ e. g (all_zero_out l e))
-  where
-    go : (t z : Bool) → (t ≡ true → z ≡ true) → (z ≡ true → t ≡ true) → t ≡ z
-    go true z f g = sym (f refl)
-    go false true f g = g refl
-    go false false f g = refl
+clear_zero l {t} (f, g) = both_ways t (all_zero l) (λ e. all_zero_in l (f e)) (λ e. g (all_zero_out l e))
 
 -- A condition stored over the first n of eight bytes.
 stored_padded : (n : ℕ) (g s : List ℕ) → length g ≡ 8 → n ≤ 8 → length s ≡ n → all_zero (drop n g) ≡ true → sets g 0 s ≡ padded s
@@ -123,13 +119,13 @@ stored_padded n g s eight high long z =
     ∙ ap (λ k. s ++ replicate (8 - k) 0) (sym long)
 
 -- The answers of `first`.
-module _ (n : ℕ) (range : in_range n ≡ true) {k : ℕ} (e : k ≡ n) {p : Pending} (u : IsSmall one_condition p) {o : Option (List ℕ)}
+module _ (n : ℕ) (range : in_range n ≡ true) {k : ℕ} (e : k ≡ n) {p : Pending} (u : p ≡ one_condition) {o : Option (List ℕ)}
     (h : o ≡ stored (replicate 8 0) 0 (completed (k - 0) p)) where
   first_padded : (s : List ℕ) × ((o ≡ some (padded s)) × IsFirst n s)
   first_padded =
       let (s, (d, i)) = first_found n range in
       let z : k - 0 ≡ n = omega arith in
-      let c : o ≡ stored (replicate 8 0) 0 (completed n one_condition) = h ∙ rw (u.is, z) in
+      let c : o ≡ stored (replicate 8 0) 0 (completed n one_condition) = h ∙ rw (u, z) in
       (s, (c ∙ ap (stored (replicate 8 0) 0) d ∙ ap some (stored_padded n (replicate 8 0) s refl (high n range) (test_in n s i.passes).0 (zero_eight 8 n)), i))
 
   pub first_some : IsSome o
@@ -157,13 +153,13 @@ module _ (n : ℕ) (g : List ℕ) (eight : length g ≡ 8) where
     pub given_clear : a ≡ true → {z : Bool} → IsTrue z ↔ All (λ b. b ≡ 0) (drop n g) → z ≡ is_given n g
     given_clear e v = clear_zero (drop n g) v ∙ sym (ap (λ b. b && all_zero (drop n g)) e) ∙ given_is
 
-  pub next_answer : in_range n ≡ true → is_given n g ≡ true → {k : ℕ} → k ≡ n → {p : Pending} → IsSmall one_condition p → {r : Option (List ℕ)}
+  pub next_answer : in_range n ≡ true → is_given n g ≡ true → {k : ℕ} → k ≡ n → {p : Pending} → p ≡ one_condition → {r : Option (List ℕ)}
       → r ≡ stored g 0 (following p (drop 0 (take k g))) → NextAnswer n g (Ok r)
   unfolding is_given
   next_answer range given {k} e w {r} s = subst (λ (o : Option (List ℕ)). NextAnswer n g (Ok o)) (sym step_is) (go (following one_condition (take n g)) refl)
     where
       step_is : r ≡ stored g 0 (following one_condition (take n g))
-      step_is = s ∙ ap (λ q. stored g 0 (following q (take k g))) w.is ∙ ap (λ j. stored g 0 (following one_condition (take j g))) e
+      step_is = s ∙ ap (λ q. stored g 0 (following q (take k g))) w ∙ ap (λ j. stored g 0 (following one_condition (take j g))) e
 
       accepted : next_refusal n g ≡ 0
       accepted = rw (range, given)

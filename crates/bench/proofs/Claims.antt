@@ -13,7 +13,8 @@ use Rattle.refusal.specs.declared.Refusal.TheVariants as refusal
 use Rattle.refusal.specs.Numbers.{number_of}
 use Rattle.bench.specs.Bench.{is_test_condition, precedes, IsFirst, is_greater, IsNext, NoneGreater, padded, gives, FirstReply, NextReply, NextAnswer}
 use Rattle.bench.specs.Claims.{FirstIsLeast, NextIsLeastGreater, NoneExactly, FirstDetermined, NextDetermined, ListDetermined, Among, Rising, Lists, GoesOn, AnsweredLists}
-use Rattle.bench.proofs.Tests.{none_true, and_parts, and_true}
+use Rattle.std.proofs.lemmas.Bool.{and_parts, and_from}
+use Rattle.bench.proofs.Tests.{none_true}
 use Rattle.bench.proofs.ByteOrder.{precedes_trans, precedes_not, least_same}
 use Rattle.bench.proofs.Answering.{test_in}
 
@@ -151,7 +152,7 @@ module _ (n : ℕ) where
     where
       go : (is_greater n h t ≡ true → Among t w) → (t ≡ h) ⊎ (precedes h t ≡ true) → Among t (h ∷ w)
       go ih (inl d) = inl d
-      go ih (inr d) = inr (ih (and_true (greater_is n g t e).0 d))
+      go ih (inr d) = inr (ih (and_from _ _ (greater_is n g t e).0 d))
 
   rest_rising : (g : List ℕ) (w : List (List ℕ)) → Next n g w → Rising w
   rest_rising g [] f = tt
@@ -167,7 +168,7 @@ module _ (n : ℕ) where
     where
       every : (t : List ℕ) → is_test_condition n t ≡ true → (t ≡ g) ⊎ (precedes g t ≡ true) → Among t (g ∷ w)
       every t e (inl d) = inl d
-      every t e (inr d) = inr (rest_every g w f t (and_true e d))
+      every t e (inr d) = inr (rest_every g w f t (and_from _ _ e d))
 
       only : (t : List ℕ) → Among t (g ∷ w) → is_test_condition n t ≡ true
       only t (inl d) = subst (λ (s : List ℕ). is_test_condition n s ≡ true) (sym d) x.passes

@@ -17,6 +17,7 @@ use Rattle.condition.proofs.Parsing.{condition_whole, parse_lent, parse_bytes}
 use Rattle.bench.specs.declared.parts.Part.{Part}
 use Rattle.bench.specs.declared.parts.Part.TheVariants.{Condition as a_condition, Value as a_value, Number as a_number}
 use Rattle.bench.specs.Bench.{condition_has_constant, value_has_constant, lending, is_test_condition}
+use Rattle.std.specs.Cmp.{both_ways}
 use Rattle.bench.proofs.Tests.{none_true, pick}
 use Rattle.bench.proofs.LeastBytes.InOrder.{behind_condition, behind_value, behind_list, counted, admits, none_admits}
 use Rattle.bench.proofs.LeastBytes.Holding.{fit_in}
@@ -181,11 +182,6 @@ admits_plain s h =
     let (c, u) = trees s (a_condition ∷ []) h in
     let e : s ≡ condition_bytes c = u.exact ∙ ap (λ t. condition_bytes c ++ t) u.more ∙ append-nil (condition_bytes c) in
     rw (e, parse_bytes lending c u.plain.1, u.plain.0)
-
-both_ways : (a b : Bool) → (a ≡ true → b ≡ true) → (b ≡ true → a ≡ true) → a ≡ b
-both_ways true b f g = sym (f refl)
-both_ways false true f g = g refl
-both_ways false false f g = refl
 
 pub test_admits : (n : ℕ) (s : List ℕ) → is_test_condition n s ≡ (eqb (length s) n && admits start s)
 unfolding is_test_condition

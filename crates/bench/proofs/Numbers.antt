@@ -13,7 +13,7 @@ use Rattle.condition.specs.Parse.{condition_operator, value_operator}
 use Rattle.bench.specs.Bench.{is_test_condition, precedes, in_range, padded, is_given, next_refusal}
 use Rattle.bench.specs.Claims.{GoesOn, Answered, AnsweredEnds, Counts, numbers, Numbers, OfThreeBytes}
 use Rattle.bench.specs.Walk.{one_condition, after, fits, seek, least, completed, following}
-use Rattle.bench.proofs.Tests.{and_parts, and_true}
+use Rattle.std.proofs.lemmas.Bool.{and_parts, and_from}
 use Rattle.bench.proofs.Answering.{test_in, range_parts, zero_eight, first_found, next_is, none_is}
 use Rattle.bench.proofs.Claims.{front_padded, Next, Firsts, firsts_list}
 
@@ -108,7 +108,7 @@ counts_hold_lem m [] low high h u = tt
 counts_hold_lem m (k ∷ l) low high h (e, more) =
     let (a, b) = and_parts (ltb 0 k) (positive l) h in
     let (w, (f, d)) = walk_there (walk m) e (ltb-true 0 k a) in
-    ((w, (firsts_list m w (walk_firsts m (and_true (le-leb 1 m low) (le-leb m 8 (omega arith))) w f), d)), counts_hold_lem (suc m) l (omega arith) (omega arith) b more)
+    ((w, (firsts_list m w (walk_firsts m (and_from _ _ (le-leb 1 m low) (le-leb m 8 (omega arith))) w f), d)), counts_hold_lem (suc m) l (omega arith) (omega arith) b more)
 
 walks_end : (m : ℕ) (l : List ℕ) → positive l ≡ true → Walks m l → (n : ℕ) → m ≤ n → n < m + length l → (w : List (List ℕ)) × (walk n ≡ some w)
 unfolding positive

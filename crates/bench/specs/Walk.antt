@@ -1,5 +1,5 @@
 -- What the private functions promise: what is still to be written of a condition that is begun, whether so many bytes can hold it, and the search.
-use Rattle.std.specs.Prelude.{◌≡◌, Bool, false, cond, ◌&&◌, ◌||◌, List, [], ◌∷◌, ℕ, zero, suc, ◌+◌, ◌-◌, ◌*◌, ◌/◌, ◌%◌, ◌≤◌, ◌<◌, max, eqb, ltb, leb, length, Option, None, Some, option_map, option_and_then}
+use Rattle.std.specs.Prelude.{Bool, false, cond, ◌&&◌, ◌||◌, List, [], ◌∷◌, ℕ, zero, suc, ◌+◌, ◌-◌, ◌*◌, ◌/◌, ◌%◌, ◌≤◌, ◌<◌, max, eqb, ltb, leb, length, Option, None, Some, option_map, option_and_then}
 use Rattle.std.specs.Option.{option_or}
 use Rattle.std.proofs.lemmas.List.Edits.{sets}
 use Rattle.condition.specs.Parse.{ConditionOperator, op_true, op_not, op_and, op_or, op_less, op_equal, op_within, no_condition, condition_operator, ValueOperator, op_constant, op_program, op_monitor, op_at_entry, op_plus, op_minus, op_choose, no_value, value_operator}
@@ -180,8 +180,3 @@ pub record Room (p : Pending) : Type 0 where
   pub conditions : p.conditions < 1000
   pub values : p.values < 1000
   pub numbers : p.numbers < 1000
-
--- r is t, and it is small
-pub record IsSmall (t r : Pending) : Type 0 where
-  pub is : r ≡ t
-  pub small : Small r

@@ -41,10 +41,9 @@ fn in_range(n: u8) -> Result<usize, Refusal>
     ensures ok { IfOk result (λ count. (count ≡ n) × (in_range n ≡ true)) }
     ensures err { IfErr result (λ e. (e ≡ Refusal.OutOfRange) × (in_range n ≡ false)) }
 {
-    if 1 <= n && n <= 8 {
-        Ok(usize::from(n))
-    } else {
-        Err(Refusal::OutOfRange)
+    match n {
+        1..=8 => Ok(usize::from(n)),
+        _ => Err(Refusal::OutOfRange),
     }
 }
 

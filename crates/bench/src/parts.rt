@@ -2,9 +2,9 @@
 
 ghost use Rattle.std.specs.Prelude.{◌≡◌, ◌≤◌, Option, IfSome};
 ghost use Rattle.condition.specs.Parse.{condition_operator, value_operator};
-ghost use Rattle.bench.specs.Walk.{Small, Room, IsSmall, one_condition, with_part, split_first, after_condition, after_value, after_number, after, fits, onward, lowest, limit};
+ghost use Rattle.bench.specs.Walk.{Small, Room, one_condition, with_part, split_first, after_condition, after_value, after_number, after, fits, onward, lowest, limit};
 
-// A condition, a value, or a variable's number: each has its digit in the order of what is pending.
+// A condition, a value, or a variable's number.
 #[derive(Clone, Copy)]
 pub(crate) enum Part {
     Condition,
@@ -15,6 +15,7 @@ pub(crate) enum Part {
 // What is still to be written: the parts in order, as digits of base 4 with the first part lowest
 // (1 is a condition, 2 a value, 3 a variable's number), and how many there are of each.
 // In one number: an array of parts would need its length beside it, and each step would shift it.
+// Bounded by each contract, not by the type: behind a byte the bounds are wider until `fits` is asked.
 #[derive(Clone, Copy)]
 pub(crate) struct Pending {
     pub(crate) order: usize,
@@ -51,7 +52,8 @@ impl Part {
 
 impl Pending {
     pub(crate) fn one_condition() -> Pending
-        ensures { IsSmall one_condition result }
+        ensures is { result ≡ one_condition }
+        ensures small { Small result }
     {
         Pending {
             order: 1,

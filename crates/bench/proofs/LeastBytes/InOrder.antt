@@ -12,7 +12,7 @@ use Rattle.bench.specs.declared.parts.Part.{Part}
 use Rattle.bench.specs.declared.parts.Part.TheVariants.{Condition as a_condition, Value as a_value, Number as a_number}
 use Rattle.bench.specs.declared.parts.Pending.{Pending}
 use Rattle.bench.specs.Walk.{nothing, with_condition, with_value, with_number, with_part, less_condition, less_value, less_number, split_first, after_condition, after_value, after_part, after, fewest, enough, orders, fits, fitting, onward}
-use Rattle.bench.proofs.Tests.{and_parts}
+use Rattle.std.proofs.lemmas.Bool.{and_parts}
 
 -- What an operator leaves to be written, in front of what follows it; none where it cannot stand there.
 abbrev pub behind_condition : ConditionOperator → List Part → Option (List Part)
