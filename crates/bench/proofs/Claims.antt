@@ -7,12 +7,15 @@ use Prim.Native.Nat.{ℕ, ◌-◌, ◌<◌}
 use native.Mathlib.Omega.{arith}
 use lib.ListN.{length, take, replicate}
 use lib.Seq.{take_at}
-use Rattle.bench.specs.declared.Listing.{Listing}
-use Rattle.bench.specs.declared.Listed.{Listed}
-use Rattle.bench.specs.declared.Listed.TheVariants as listed
-use Rattle.bench.specs.Bench.{is_test_condition, precedes, IsFirst, is_greater, IsNext, NoneGreater, padded, listed_paper, reply_bytes, FirstReply, NextReply}
+use Rattle.std.specs.Prelude.{Option, None as none, Some as some, Result, Ok, Err, get_or}
+use Rattle.refusal.specs.declared.Refusal.{Refusal}
+use Rattle.refusal.specs.declared.Refusal.TheVariants as refusal
+use Rattle.refusal.specs.Numbers.{number_of}
+use Rattle.refusal.proofs.Numbers.{number_one}
+use Rattle.bench.specs.Bench.{is_test_condition, precedes, IsFirst, is_greater, IsNext, NoneGreater, padded, gives, FirstReply, NextReply, NextAnswer}
 use Rattle.bench.specs.Claims.{FirstIsLeast, NextIsLeastGreater, NoneExactly, FirstDetermined, NextDetermined, ListDetermined, Among, Rising, Lists, GoesOn, AnsweredLists}
-use Rattle.bench.proofs.Tests.{none_true, and_parts, and_true}
+use Rattle.std.proofs.lemmas.Bool.{and_parts, and_from}
+use Rattle.bench.proofs.Tests.{none_true}
 use Rattle.bench.proofs.ByteOrder.{precedes_trans, precedes_not, least_same}
 use Rattle.bench.proofs.Answering.{test_in}
 
@@ -27,58 +30,48 @@ not_refused l e f = absurd (omega arith)
 greater_is : (n : ℕ) (g s : List ℕ) → is_greater n g s ≡ true → (is_test_condition n s ≡ true) × (precedes g s ≡ true)
 greater_is n g s h = and_parts (is_test_condition n s) (precedes g s) h
 
+first_given : (n : ℕ) (bytes : List ℕ) → FirstReply n (gives bytes) → IsFirst n (take n bytes)
+first_given n bytes (z, (s, (i, b))) = subst (IsFirst n) (sym (ap (take n) b ∙ front_padded n s i.passes)) i
+
 pub first_is_least : FirstIsLeast
-first_is_least n r h e = go r.answer refl h.0
-  where
-    go : (a : Listed) → r.answer ≡ a → FirstReply n (listed_paper r.bytes a) → (r.answer ≡ listed.Is) × IsFirst n (take n r.bytes)
-    go listed.Is f (z, (s, (i, b))) = (f, subst (IsFirst n) (sym (ap (take n) b ∙ front_padded n s i.passes)) i)
-    go listed.Last f x = absurd x
-    go (listed.Refused m) f (l, k) = not_refused l k e
+first_is_least n (Ok bytes) h e = (bytes, (refl, first_given n bytes h))
+first_is_least n (Err m) (l, k) e = not_refused l k e
+
+next_given : (n : ℕ) (g bytes : List ℕ) → NextReply n g (gives bytes) → IsNext n (take n g) (take n bytes)
+next_given n g bytes (z, (s, (i, b))) = subst (IsNext n (take n g)) (sym (ap (take n) b ∙ front_padded n s (greater_is n (take n g) s i.passes).0)) i
 
 pub next_is_least_greater : NextIsLeastGreater
-next_is_least_greater n g r h e =
-    let (z, (s, (i, b))) = subst (λ (a : Listed). NextReply n g (listed_paper r.bytes a)) e h.0 in
-    subst (IsNext n (take n g)) (sym (ap (take n) b ∙ front_padded n s (greater_is n (take n g) s i.passes).0)) i
+next_is_least_greater n g bytes r h e = next_given n g bytes (subst (NextAnswer n g) e h)
 
 pub none_exactly : NoneExactly
-none_exactly n g r h z = (λ e. (subst (λ (a : Listed). NextReply n g (listed_paper r.bytes a)) e h.0).1, go r.answer refl h.0)
+none_exactly n g r h z = (λ e. (subst (NextAnswer n g) e h).1, go r h)
   where
-    go : (a : Listed) → r.answer ≡ a → NextReply n g (listed_paper r.bytes a) → NoneGreater n (take n g) → r.answer ≡ listed.Last
-    go listed.Is f (y, (s, (i, b))) none_above_lem = none_true (sym (none_above_lem s) ∙ i.passes)
-    go listed.Last f x none_above_lem = f
-    go (listed.Refused m) f (l, k) none_above_lem = not_refused l k z
+    go : (r : Result (Option (List ℕ)) Refusal) → NextAnswer n g r → NoneGreater n (take n g) → r ≡ Ok none
+    go (Ok (some bytes)) (y, (s, (i, b))) none_above_lem = none_true (sym (none_above_lem s) ∙ i.passes)
+    go (Ok none) x none_above_lem = refl
+    go (Err m) (l, k) none_above_lem = not_refused l k z
+
+-- A refusal is known by its number.
+same_refusal : {d e : Refusal} {n : ℕ} → number_of d ≡ n → number_of e ≡ n → d ≡ e
+same_refusal {d} {e} f g = number_one d e (f ∙ sym g)
 
 -- Two answers are the same.
-same_listing : {r t : Listing} → r.answer ≡ t.answer → r.bytes ≡ t.bytes → r ≡ t
-same_listing e f = λ i. record { answer = e i; bytes = f i }
-
 pub first_determined : FirstDetermined
-first_determined n r t h k = go r.answer t.answer refl refl h.0 k.0 h.1 k.1
-  where
-    go : (a b : Listed) → r.answer ≡ a → t.answer ≡ b → FirstReply n (listed_paper r.bytes a) → FirstReply n (listed_paper t.bytes b)
-        → r.bytes ≡ reply_bytes (listed_paper r.bytes a) → t.bytes ≡ reply_bytes (listed_paper t.bytes b) → r ≡ t
-    go listed.Is listed.Is e f (x, (s, (i, p))) (y, (u, (j, q))) v w = same_listing (e ∙ sym f) (p ∙ ap padded (least_same i j) ∙ sym q)
-    go listed.Is listed.Last e f x y v w = absurd y
-    go listed.Is (listed.Refused m) e f (x, i) (l, k) v w = not_refused l k x
-    go listed.Last b e f x y v w = absurd x
-    go (listed.Refused m) listed.Is e f (l, k) (y, j) v w = not_refused l k y
-    go (listed.Refused m) listed.Last e f x y v w = absurd y
-    go (listed.Refused m) (listed.Refused o) e f (l, k) (z, j) v w = same_listing (e ∙ ap listed.Refused (k ∙ sym j) ∙ sym f) (v ∙ sym w)
+first_determined n (Ok a) (Ok b) (x, (s, (i, p))) (y, (u, (j, q))) = ap Ok (p ∙ ap padded (least_same i j) ∙ sym q)
+first_determined n (Ok a) (Err e) (x, i) (l, k) = not_refused l k x
+first_determined n (Err d) (Ok b) (l, k) (y, j) = not_refused l k y
+first_determined n (Err d) (Err e) (l, k) (z, j) = ap Err (same_refusal k j)
 
 pub next_determined : NextDetermined
-next_determined n g r t h k = go r.answer t.answer refl refl h.0 k.0 h.1 k.1
-  where
-    go : (a b : Listed) → r.answer ≡ a → t.answer ≡ b → NextReply n g (listed_paper r.bytes a) → NextReply n g (listed_paper t.bytes b)
-        → r.bytes ≡ reply_bytes (listed_paper r.bytes a) → t.bytes ≡ reply_bytes (listed_paper t.bytes b) → r ≡ t
-    go listed.Is listed.Is e f (x, (s, (i, p))) (y, (u, (j, q))) v w = same_listing (e ∙ sym f) (p ∙ ap padded (least_same i j) ∙ sym q)
-    go listed.Is listed.Last e f (x, (s, (i, p))) (y, none_above_lem) v w = none_true (sym (none_above_lem s) ∙ i.passes)
-    go listed.Is (listed.Refused m) e f (x, i) (l, k) v w = not_refused l k x
-    go listed.Last listed.Is e f (x, none_above_lem) (y, (u, (j, q))) v w = none_true (sym (none_above_lem u) ∙ j.passes)
-    go listed.Last listed.Last e f x y v w = same_listing (e ∙ sym f) (v ∙ sym w)
-    go listed.Last (listed.Refused m) e f (x, i) (l, k) v w = not_refused l k x
-    go (listed.Refused m) listed.Is e f (l, k) (y, j) v w = not_refused l k y
-    go (listed.Refused m) listed.Last e f (l, k) (y, j) v w = not_refused l k y
-    go (listed.Refused m) (listed.Refused o) e f (l, k) (z, j) v w = same_listing (e ∙ ap listed.Refused (k ∙ sym j) ∙ sym f) (v ∙ sym w)
+next_determined n g (Ok (some a)) (Ok (some b)) (x, (s, (i, p))) (y, (u, (j, q))) = ap (λ v. Ok (some v)) (p ∙ ap padded (least_same i j) ∙ sym q)
+next_determined n g (Ok (some a)) (Ok none) (x, (s, (i, p))) (y, none_above_lem) = none_true (sym (none_above_lem s) ∙ i.passes)
+next_determined n g (Ok (some a)) (Err e) (x, i) (l, k) = not_refused l k x
+next_determined n g (Ok none) (Ok (some b)) (x, none_above_lem) (y, (u, (j, q))) = none_true (sym (none_above_lem u) ∙ j.passes)
+next_determined n g (Ok none) (Ok none) x y = refl
+next_determined n g (Ok none) (Err e) (x, i) (l, k) = not_refused l k x
+next_determined n g (Err d) (Ok (some b)) (l, k) (y, j) = not_refused l k y
+next_determined n g (Err d) (Ok none) (l, k) (y, j) = not_refused l k y
+next_determined n g (Err d) (Err e) (l, k) (z, j) = ap Err (same_refusal k j)
 
 -- Two lists that rise and have the same strings are the same.
 module _ {a b : List ℕ} (l m : List (List ℕ)) (e : a ≡ b) (u : Rising (a ∷ l)) (h : (t : List ℕ) → Among t (a ∷ l) → Among t (b ∷ m)) where
@@ -129,7 +122,7 @@ module _ (n : ℕ) where
     where
       go : (is_greater n h t ≡ true → Among t w) → (t ≡ h) ⊎ (precedes h t ≡ true) → Among t (h ∷ w)
       go ih (inl d) = inl d
-      go ih (inr d) = inr (ih (and_true (greater_is n g t e).0 d))
+      go ih (inr d) = inr (ih (and_from _ _ (greater_is n g t e).0 d))
 
   rest_rising : (g : List ℕ) (w : List (List ℕ)) → Next n g w → Rising w
   rest_rising g [] f = tt
@@ -145,17 +138,17 @@ module _ (n : ℕ) where
     where
       every : (t : List ℕ) → is_test_condition n t ≡ true → (t ≡ g) ⊎ (precedes g t ≡ true) → Among t (g ∷ w)
       every t e (inl d) = inl d
-      every t e (inr d) = inr (rest_every g w f t (and_true e d))
+      every t e (inr d) = inr (rest_every g w f t (and_from _ _ e d))
 
       only : (t : List ℕ) → Among t (g ∷ w) → is_test_condition n t ≡ true
       only t (inl d) = subst (λ (s : List ℕ). is_test_condition n s ≡ true) (sym d) x.passes
       only t (inr m) = (rest_only g w f t m).0
 
   goes_next : (g : List ℕ) (w : List (List ℕ)) → GoesOn n g w → Next n (take n g) (map (take n) w)
-  goes_next g [] a = a.0.1
-  goes_next g (h ∷ w) (a, more) = (next_is_least_greater n g (record { answer = listed.Is; bytes = h }) a refl, goes_next h w more)
+  goes_next g [] a = a.1
+  goes_next g (h ∷ w) (a, more) = (next_given n g h a, goes_next h w more)
 
 pub answered_lists : AnsweredLists
 answered_lists n [] a = absurd a
 answered_lists n (g ∷ w) (a, more) =
-    firsts_list n (map (take n) (g ∷ w)) ((first_is_least n (record { answer = listed.Is; bytes = g }) a a.0.0).1, goes_next n g w more)
+    firsts_list n (map (take n) (g ∷ w)) (first_given n g a, goes_next n g w more)

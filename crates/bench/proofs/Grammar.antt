@@ -2,7 +2,8 @@
 use mathlib.Core.Path.{◌≡◌, refl, sym, ap, ap₂, ◌∙◌}
 use mathlib.Core.Bool.{Bool, true, false, not, cond, ◌&&◌, ◌||◌}
 use mathlib.Mathlib.Data.Bool.Basic.{or-eq-false-eq-eq-false-and-eq-false as or-clear}
-use mathlib.Core.Option.{Option, none, some}
+use mathlib.Core.Option.{Option as Parsed, none as unparsed, some as parsed}
+use Rattle.std.specs.Prelude.{Option, None as none, Some as some}
 use mathlib.Core.List.{List, [], ◌∷◌, ◌++◌, append_assoc, append-nil}
 use Prim.Native.Nat.{ℕ}
 use native.Mathlib.Omega.{arith}
@@ -13,9 +14,12 @@ use Rattle.condition.specs.Tree.{program, monitor, at_entry, Condition, always, 
 use Rattle.condition.specs.Parse.{is_lent, unlent, ConditionOperator, op_true, op_not, op_and, op_or, op_less, op_equal, op_within, condition_operator, ValueOperator, op_constant, op_program, op_monitor, op_at_entry, op_plus, op_minus, op_choose, value_operator, parse_condition}
 use Rattle.condition.specs.Answer.{whether}
 use Rattle.condition.proofs.Parsing.{condition_whole, parse_lent, parse_bytes}
+use Rattle.bench.specs.declared.parts.Part.{Part}
+use Rattle.bench.specs.declared.parts.Part.TheVariants.{Condition as a_condition, Value as a_value, Number as a_number}
 use Rattle.bench.specs.Bench.{condition_has_constant, value_has_constant, lending, is_test_condition}
+use Rattle.std.specs.Cmp.{both_ways}
 use Rattle.bench.proofs.Tests.{none_true, pick}
-use Rattle.bench.proofs.LeastBytes.InOrder.{Part, a_condition, a_value, a_number, behind_condition, behind_value, behind_list, counted, admits, none_admits}
+use Rattle.bench.proofs.LeastBytes.InOrder.{behind_condition, behind_value, behind_list, counted, admits, none_admits}
 use Rattle.bench.proofs.LeastBytes.Holding.{fit_in}
 
 -- One condition is still to be written.
@@ -167,9 +171,9 @@ plain_admits : (s : List ℕ) → plain_parse s ≡ true → admits start s ≡ 
 unfolding admits counted
 plain_admits s h = go (parse_condition lending s) refl h
   where
-    go : (o : Option Condition) → parse_condition lending s ≡ o → whether o (λ c. not (condition_has_constant c)) ≡ true → admits start s ≡ true
-    go none e t = none_true t
-    go (some c) e t =
+    go : (o : Parsed Condition) → parse_condition lending s ≡ o → whether o (λ c. not (condition_has_constant c)) ≡ true → admits start s ≡ true
+    go unparsed e t = none_true t
+    go (parsed c) e t =
         let f = (condition_written c).front (not-true (condition_has_constant c) t, parse_lent lending s e) [] [] in
         ap (admits start) (condition_whole lending s e ∙ sym (append-nil (condition_bytes c))) ∙ f
 
@@ -178,11 +182,6 @@ admits_plain s h =
     let (c, u) = trees s (a_condition ∷ []) h in
     let e : s ≡ condition_bytes c = u.exact ∙ ap (λ t. condition_bytes c ++ t) u.more ∙ append-nil (condition_bytes c) in
     rw (e, parse_bytes lending c u.plain.1, u.plain.0)
-
-both_ways : (a b : Bool) → (a ≡ true → b ≡ true) → (b ≡ true → a ≡ true) → a ≡ b
-both_ways true b f g = sym (f refl)
-both_ways false true f g = g refl
-both_ways false false f g = refl
 
 pub test_admits : (n : ℕ) (s : List ℕ) → is_test_condition n s ≡ (eqb (length s) n && admits start s)
 unfolding is_test_condition

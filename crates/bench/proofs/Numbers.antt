@@ -1,7 +1,7 @@
 -- Going on from the first comes to an end for every n, and how many there are: document 02's numbers, by computation. Assumes nothing.
-use mathlib.Core.Path.{◌≡◌, refl, sym, subst}
+use mathlib.Core.Path.{◌≡◌, refl, sym, ap, subst, ◌∙◌}
 use mathlib.Core.Bool.{Bool, true, false, ◌&&◌}
-use mathlib.Core.Option.{Option, none, some}
+use Rattle.std.specs.Prelude.{Option, None as none, Some as some}
 use mathlib.Core.List.{List, [], ◌∷◌, map}
 use Prim.Native.Nat.{ℕ, zero, suc, ◌+◌, ◌-◌, ◌≤◌, ◌<◌}
 use native.Mathlib.Omega.{arith}
@@ -13,8 +13,8 @@ use Rattle.condition.specs.Parse.{condition_operator, value_operator}
 use Rattle.bench.specs.Bench.{is_test_condition, precedes, in_range, padded, is_given, next_refusal}
 use Rattle.bench.specs.Claims.{GoesOn, Answered, AnsweredEnds, Counts, numbers, Numbers, OfThreeBytes}
 use Rattle.bench.specs.Walk.{one_condition, after, fits, seek, least, completed, following}
-use Rattle.bench.proofs.Tests.{and_parts, and_true}
-use Rattle.bench.proofs.Answering.{test_in, range_parts, zero_eight, first_is, next_is, none_is}
+use Rattle.std.proofs.lemmas.Bool.{and_parts, and_from}
+use Rattle.bench.proofs.Answering.{test_in, range_parts, zero_eight, first_found, next_is, none_is}
 use Rattle.bench.proofs.Claims.{front_padded, Next, Firsts, firsts_list}
 
 -- The conditions behind a given one, at most k; none where there are more.
@@ -30,8 +30,12 @@ unfoldable walked : ℕ → List ℕ → Option (List (List ℕ))
 walked zero g = none
 walked (suc k) g = stepped (walked k) (following one_condition g)
 
+abbrev walked_from : Option (List ℕ) → Option (List (List ℕ))
+walked_from none = none
+walked_from (some s) = fronted s (walked 640 s)
+
 abbrev walk : ℕ → Option (List (List ℕ))
-walk n = fronted (completed n one_condition) (walked 640 (completed n one_condition))
+walk n = walked_from (completed n one_condition)
 
 no_walk : {A : Type 0} {w : List (List ℕ)} → none ≡ some w → A
 no_walk e = absurd (let z : ◌≡◌ {A = ℕ} 0 1 = cc in omega arith)
@@ -56,9 +60,9 @@ module _ (n : ℕ) (range : in_range n ≡ true) where
 
   walk_firsts : (w : List (List ℕ)) → walk n ≡ some w → Firsts n w
   walk_firsts w e =
-      let (v, (a, b)) = fronted_parts (completed n one_condition) (walked 640 (completed n one_condition)) w e in
-      let f = first_is n range in
-      subst (Firsts n) (sym b) (f, walked_next 640 (completed n one_condition) v f.passes a)
+      let (s, (d, f)) = first_found n range in
+      let (v, (a, b)) = fronted_parts s (walked 640 s) w (sym (ap walked_from d) ∙ e) in
+      subst (Firsts n) (sym b) (f, walked_next 640 s v f.passes a)
 
   -- What was answered can be given back.
   given_back : (s : List ℕ) → is_test_condition n s ≡ true → next_refusal n (padded s) ≡ 0
@@ -68,13 +72,13 @@ module _ (n : ℕ) (range : in_range n ≡ true) where
       rw (range, front_padded n s h, h, d, zero_eight (8 - length s) 0)
 
   next_goes : (g : List ℕ) (w : List (List ℕ)) → is_test_condition n g ≡ true → Next n g w → GoesOn n (padded g) (map padded w)
-  next_goes g [] h f = ((given_back g h, rw (front_padded n g h) f), refl)
+  next_goes g [] h f = (given_back g h, rw (front_padded n g h) f)
   next_goes g (r ∷ w) h (i, f) =
-      (((given_back g h, (r, (rw (front_padded n g h) i, refl))), refl), next_goes r w (and_parts (is_test_condition n r) (precedes g r) i.passes).0 f)
+      ((given_back g h, (r, (rw (front_padded n g h) i, refl))), next_goes r w (and_parts (is_test_condition n r) (precedes g r) i.passes).0 f)
 
   firsts_answered : (w : List (List ℕ)) → Firsts n w → Answered n (map padded w)
   firsts_answered [] f = absurd f
-  firsts_answered (g ∷ w) (i, f) = (((rw range, (g, (i, refl))), refl), next_goes g w i.passes f)
+  firsts_answered (g ∷ w) (i, f) = ((rw range, (g, (i, refl))), next_goes g w i.passes f)
 
 -- How many conditions a walk has.
 abbrev length_of : Option (List (List ℕ)) → ℕ
@@ -104,7 +108,7 @@ counts_hold_lem m [] low high h u = tt
 counts_hold_lem m (k ∷ l) low high h (e, more) =
     let (a, b) = and_parts (ltb 0 k) (positive l) h in
     let (w, (f, d)) = walk_there (walk m) e (ltb-true 0 k a) in
-    ((w, (firsts_list m w (walk_firsts m (and_true (le-leb 1 m low) (le-leb m 8 (omega arith))) w f), d)), counts_hold_lem (suc m) l (omega arith) (omega arith) b more)
+    ((w, (firsts_list m w (walk_firsts m (and_from _ _ (le-leb 1 m low) (le-leb m 8 (omega arith))) w f), d)), counts_hold_lem (suc m) l (omega arith) (omega arith) b more)
 
 walks_end : (m : ℕ) (l : List ℕ) → positive l ≡ true → Walks m l → (n : ℕ) → m ≤ n → n < m + length l → (w : List (List ℕ)) × (walk n ≡ some w)
 unfolding positive

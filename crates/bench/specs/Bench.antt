@@ -1,12 +1,11 @@
 -- Test conditions for the card's bench (document 02, request 10): which there are, their order, and what the two operations answer.
-use Rattle.std.specs.Prelude.{◌≡◌, ◌⊎◌, Bool, true, false, not, cond, ◌&&◌, ◌||◌, List, [], ◌∷◌, ◌++◌, ℕ, ◌-◌, ◌<◌, eqb, ltb, leb, length, take, drop, replicate}
+use Rattle.std.specs.Prelude.{◌≡◌, ◌⊎◌, Bool, true, false, not, cond, ◌&&◌, ◌||◌, List, [], ◌∷◌, ◌++◌, ℕ, ◌-◌, ◌<◌, eqb, ltb, leb, length, take, drop, replicate, Option, None, Some, Result, Ok, Err}
 use Rattle.condition.specs.declared.Lent.{Lent}
 use Rattle.condition.specs.Tree.{Condition, always, negation, both, either, less, equal, within, Value, constant, variable, plus, minus, choose}
 use Rattle.condition.specs.Parse.{parse_condition}
 use Rattle.condition.specs.Answer.{whether}
-use Rattle.bench.specs.declared.Listing.{Listing}
-use Rattle.bench.specs.declared.Listed.{Listed}
-use Rattle.bench.specs.declared.Listed.TheVariants as listed
+use Rattle.refusal.specs.declared.Refusal.{Refusal}
+use Rattle.refusal.specs.Numbers.{number_of}
 
 -- "no constants": whether a tree has one
 unfoldable mutual
@@ -91,20 +90,15 @@ pub data Reply : Type 0 where
   says_none : Reply
   refused : ℕ → Reply
 
--- The paper's values and number for each case of the answer.
-abbrev pub listed_paper : List ℕ → Listed → Reply
-listed_paper bytes listed.Is = gives bytes
-listed_paper bytes listed.Last = says_none
-listed_paper bytes (listed.Refused m) = refused m
+-- The paper's reply for each case of an answer. Where no condition is given, no bytes come back.
+abbrev pub first_paper : Result (List ℕ) Refusal → Reply
+first_paper (Ok bytes) = gives bytes
+first_paper (Err e) = refused (number_of e)
 
-abbrev pub listing_paper : Listing → Reply
-listing_paper r = listed_paper r.bytes r.answer
-
--- the bytes that come back with it: all zeros where no condition is given
-abbrev pub reply_bytes : Reply → List ℕ
-reply_bytes (gives bytes) = bytes
-reply_bytes says_none = padded []
-reply_bytes (refused m) = padded []
+abbrev pub next_paper : Result (Option (List ℕ)) Refusal → Reply
+next_paper (Ok (Some bytes)) = gives bytes
+next_paper (Ok None) = says_none
+next_paper (Err e) = refused (number_of e)
 
 -- "gives by value the first for n"
 abbrev pub FirstReply : ℕ → Reply → Type 0
@@ -112,8 +106,8 @@ FirstReply n (gives bytes) = (first_refusal n ≡ 0) × ((s : List ℕ) × (IsFi
 FirstReply n says_none = ⊥
 FirstReply n (refused m) = (0 < m) × (m ≡ first_refusal n)
 
-abbrev pub FirstAnswer : ℕ → Listing → Type 0
-FirstAnswer n r = FirstReply n (listing_paper r) × (r.bytes ≡ reply_bytes (listing_paper r))
+abbrev pub FirstAnswer : ℕ → Result (List ℕ) Refusal → Type 0
+FirstAnswer n r = FirstReply n (first_paper r)
 
 -- "and the next one after a given one, or says there is none"
 abbrev pub NextReply : ℕ → List ℕ → Reply → Type 0
@@ -121,5 +115,5 @@ NextReply n g (gives bytes) = (next_refusal n g ≡ 0) × ((s : List ℕ) × (Is
 NextReply n g says_none = (next_refusal n g ≡ 0) × NoneGreater n (take n g)
 NextReply n g (refused m) = (0 < m) × (m ≡ next_refusal n g)
 
-abbrev pub NextAnswer : ℕ → List ℕ → Listing → Type 0
-NextAnswer n g r = NextReply n g (listing_paper r) × (r.bytes ≡ reply_bytes (listing_paper r))
+abbrev pub NextAnswer : ℕ → List ℕ → Result (Option (List ℕ)) Refusal → Type 0
+NextAnswer n g r = NextReply n g (next_paper r)

@@ -1,27 +1,26 @@
 -- What is claimed of the two operations' answers (document 02, request 10), and its numbers.
-use Rattle.std.specs.Prelude.{◌≡◌, ◌⊎◌, ◌↔◌, true, List, [], ◌∷◌, map, ℕ, suc, length, take}
-use Rattle.bench.specs.declared.Listing.{Listing}
-use Rattle.bench.specs.declared.Listed.TheVariants as listed
-use Rattle.bench.specs.Bench.{is_test_condition, precedes, IsFirst, IsNext, NoneGreater, in_range, padded, first_refusal, next_refusal, FirstAnswer, NextAnswer}
+use Rattle.std.specs.Prelude.{◌≡◌, ◌⊎◌, ◌↔◌, true, List, [], ◌∷◌, map, ℕ, suc, length, take, Option, None, Some, Result, Ok}
+use Rattle.refusal.specs.declared.Refusal.{Refusal}
+use Rattle.bench.specs.Bench.{is_test_condition, precedes, IsFirst, IsNext, NoneGreater, in_range, first_refusal, next_refusal, FirstAnswer, NextAnswer}
 
 -- "gives by value the first for n": the least
 abbrev pub FirstIsLeast : Type 0
-FirstIsLeast = (n : ℕ) (r : Listing) → FirstAnswer n r → first_refusal n ≡ 0 → (r.answer ≡ listed.Is) × IsFirst n (take n r.bytes)
+FirstIsLeast = (n : ℕ) (r : Result (List ℕ) Refusal) → FirstAnswer n r → first_refusal n ≡ 0 → (bytes : List ℕ) × ((r ≡ Ok bytes) × IsFirst n (take n bytes))
 
 -- "the next one after a given one": the least that is greater
 abbrev pub NextIsLeastGreater : Type 0
-NextIsLeastGreater = (n : ℕ) (g : List ℕ) (r : Listing) → NextAnswer n g r → r.answer ≡ listed.Is → IsNext n (take n g) (take n r.bytes)
+NextIsLeastGreater = (n : ℕ) (g bytes : List ℕ) (r : Result (Option (List ℕ)) Refusal) → NextAnswer n g r → r ≡ Ok (Some bytes) → IsNext n (take n g) (take n bytes)
 
 -- "or says there is none": exactly where none is greater
 abbrev pub NoneExactly : Type 0
-NoneExactly = (n : ℕ) (g : List ℕ) (r : Listing) → NextAnswer n g r → next_refusal n g ≡ 0 → (r.answer ≡ listed.Last) ↔ NoneGreater n (take n g)
+NoneExactly = (n : ℕ) (g : List ℕ) (r : Result (Option (List ℕ)) Refusal) → NextAnswer n g r → next_refusal n g ≡ 0 → (r ≡ Ok None) ↔ NoneGreater n (take n g)
 
 -- What the operations promise determines what they answer.
 abbrev pub FirstDetermined : Type 0
-FirstDetermined = (n : ℕ) (r t : Listing) → FirstAnswer n r → FirstAnswer n t → r ≡ t
+FirstDetermined = (n : ℕ) (r t : Result (List ℕ) Refusal) → FirstAnswer n r → FirstAnswer n t → r ≡ t
 
 abbrev pub NextDetermined : Type 0
-NextDetermined = (n : ℕ) (g : List ℕ) (r t : Listing) → NextAnswer n g r → NextAnswer n g t → r ≡ t
+NextDetermined = (n : ℕ) (g : List ℕ) (r t : Result (Option (List ℕ)) Refusal) → NextAnswer n g r → NextAnswer n g t → r ≡ t
 
 abbrev pub Among : List ℕ → List (List ℕ) → Type 0
 Among t [] = ⊥
@@ -44,13 +43,13 @@ ListDetermined = (n : ℕ) (l m : List (List ℕ)) → Lists n l → Lists n m �
 
 -- The bytes that `next` answers, each time given those answered before, until it says that there is none.
 abbrev pub GoesOn : ℕ → List ℕ → List (List ℕ) → Type 0
-GoesOn n g [] = NextAnswer n g (record { answer = listed.Last; bytes = padded [] })
-GoesOn n g (h ∷ w) = NextAnswer n g (record { answer = listed.Is; bytes = h }) × GoesOn n h w
+GoesOn n g [] = NextAnswer n g (Ok None)
+GoesOn n g (h ∷ w) = NextAnswer n g (Ok (Some h)) × GoesOn n h w
 
 -- The bytes that `first` answers, and from there on `next`.
 abbrev pub Answered : ℕ → List (List ℕ) → Type 0
 Answered n [] = ⊥
-Answered n (g ∷ w) = FirstAnswer n (record { answer = listed.Is; bytes = g }) × GoesOn n g w
+Answered n (g ∷ w) = FirstAnswer n (Ok g) × GoesOn n g w
 
 -- Starting at the first and going on gives every test condition, each once, in order; and it comes to an end.
 abbrev pub AnsweredLists : Type 0

@@ -2,80 +2,64 @@
 // monitor variables, no constants and no values at entry, in byte order.
 #![tactic(auto)]
 
-ghost use Rattle.std.specs.Prelude.{◌≡◌};
-ghost use Rattle.bench.specs.Bench.{FirstAnswer, NextAnswer, in_range};
-ghost use Rattle.bench.specs.Walk.{refused_with};
+ghost use Rattle.std.specs.Prelude.{◌≡◌, ◌≤◌, ◌↔◌, true, false, drop, All, IsTrue, IfOk, IfErr};
+ghost use Rattle.refusal.specs.declared.Refusal.TheVariants as refusal;
+ghost use Rattle.bench.specs.Bench.{FirstAnswer, NextAnswer, in_range, is_given};
+
+use crate::parts::Pending;
+use refusal::Refusal;
 
 mod parts;
 mod search;
 
-// A condition, that there is none, or the number of a refusal.
-#[derive(Clone, Copy)]
-pub enum Listed {
-    Is,
-    Last,
-    Refused(u8),
-}
-
-// The answer, and the condition's bytes with zeros behind them; all zeros where there is none.
-#[derive(Clone, Copy)]
-pub struct Listing {
-    pub answer: Listed,
-    pub bytes: [u8; 8],
-}
-
-// The first condition of n bytes: 22 for n out of range.
-pub fn first(n: u8) -> Listing
+// The first condition of n bytes, with zeros behind them: 22 for n out of range.
+#[tactic(auto, using(crate::proofs::Answering::first_some))]
+pub fn first(n: u8) -> Result<[u8; 8], Refusal>
     ensures { FirstAnswer n result }
 {
-    let count = n as usize;
-    if in_range(count) {} else {
-        return refused(22);
-    }
-    let bytes = search::complete([0; 8], 0, count, parts::one_condition());
-    Listing {
-        answer: Listed::Is,
-        bytes,
-    }
+    let count = in_range(n)?;
+    // There is a condition of each number of bytes.
+    let bytes = search::complete([0; 8], 0, count, Pending::one_condition()).unwrap();
+    Ok(bytes)
 }
 
 // The next one after a given one, if there is one: 22 for n out of range, then 26 for bytes that are
 // not such a condition.
-pub fn next(n: u8, given: [u8; 8]) -> Listing
+#[tactic(auto, using(crate::proofs::Answering::next_answer))]
+pub fn next(n: u8, given: [u8; 8]) -> Result<Option<[u8; 8]>, Refusal>
     ensures { NextAnswer n given result }
 {
-    let count = n as usize;
-    if in_range(count) {} else {
-        return refused(22);
+    let count = in_range(n)?;
+    if !is_given(given, count) {
+        return Err(Refusal::NotListed);
     }
-    if search::accepts(given, count) & search::clear_from(given, count) {} else {
-        return refused(26);
-    }
-    let step = search::following(given, 0, count, parts::one_condition());
-    if step.found {} else {
-        return Listing {
-            answer: Listed::Last,
-            bytes: [0; 8],
-        };
-    }
-    let bytes = step.bytes;
-    Listing {
-        answer: Listed::Is,
-        bytes,
+    Ok(search::following(given, 0, count, Pending::one_condition()))
+}
+
+// A number of bytes from 1 to 8.
+fn in_range(n: u8) -> Result<usize, Refusal>
+    ensures ok { IfOk result (λ count. (count ≡ n) × (in_range n ≡ true)) }
+    ensures err { IfErr result (λ e. (e ≡ Refusal.OutOfRange) × (in_range n ≡ false)) }
+{
+    match n {
+        1..=8 => Ok(usize::from(n)),
+        _ => Err(Refusal::OutOfRange),
     }
 }
 
-fn in_range(n: usize) -> bool
-    ensures { result ≡ in_range n }
+// Whether the first n bytes are a test condition, with zeros behind them.
+#[tactic(auto, using(crate::proofs::Answering::given_not))]
+fn is_given(given: [u8; 8], n: usize) -> bool
+    requires { n ≤ 8 }
+    ensures { result ≡ is_given n given }
 {
-    (1 <= n) & (n <= 8)
+    search::accepts(given, n) && clear_from(&given, n)
 }
 
-fn refused(number: u8) -> Listing
-    ensures { result ≡ refused_with number }
+// Whether all bytes from a place on are zero.
+fn clear_from(bytes: &[u8; 8], at: usize) -> bool
+    requires { at ≤ 8 }
+    ensures { IsTrue result ↔ All (λ b. b ≡ 0) (drop at bytes.now) }
 {
-    Listing {
-        answer: Listed::Refused(number),
-        bytes: [0; 8],
-    }
+    bytes[at..].iter().all(|b| *b == 0)
 }

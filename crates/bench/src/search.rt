@@ -1,146 +1,91 @@
 // The least bytes that complete a condition, and the next ones after given bytes.
 
-ghost use Rattle.std.specs.Prelude.{◌≡◌, ◌-◌, ◌≤◌, ◌<◌, get_or, take, drop};
+ghost use Rattle.std.specs.Prelude.{◌≡◌, ◌-◌, ◌≤◌, ◌<◌, IfSome, option_map, get_or, take, drop};
 ghost use Rattle.std.proofs.lemmas.List.Edits.{sets};
-ghost use Rattle.bench.specs.Walk.{Small, Finds, one_condition, larger, least, completed, accepts, clear_from, greater_at, following, step_of};
+ghost use Rattle.bench.specs.Walk.{Small, one_condition, least, completed, accepts, greater_at, following, stored};
 
-use crate::parts;
 use crate::parts::Pending;
 
 // A byte that was found, and what is pending behind it.
 #[derive(Clone, Copy)]
 struct Found {
-    is: bool,
     byte: u8,
     pending: Pending,
 }
 
-// What was found: the next bytes, or that there are none and the given ones.
-#[derive(Clone, Copy)]
-pub(crate) struct Step {
-    pub(crate) found: bool,
-    pub(crate) bytes: [u8; 8],
-}
-
 // The least byte from `from` on behind which exactly k bytes can hold what is pending.
-fn least(p: Pending, k: usize, from: usize) -> Found
+#[tactic(auto, using(crate::proofs::Searches::seek_on), unfolding(crate::specs::Walk::least, crate::specs::Walk::seek))]
+fn least(p: Pending, k: usize, from: u8) -> Option<Found>
     requires { Small p × (k ≤ 8) }
-    ensures { Finds (least p k from) result }
+    ensures is { result ≡ least p k from }
+    ensures small { IfSome result (λ f. Small f.pending) }
 {
-    let mut b = larger(from, parts::lowest(p));
-    let end = parts::limit(p);
-    while b < end {
-        let next = parts::after(p, b);
-        if parts::fits(next, k) {
-            return Found {
-                is: true,
-                byte: (b % 256) as u8,
-                pending: next,
-            };
+    let (part, _) = p.split_first()?;
+    for byte in from.max(part.lowest())..part.limit() {
+        if let Some(pending) = p.onward(byte, k) {
+            return Some(Found { byte, pending });
         }
-        b += 1;
     }
-    let pending = parts::nowhere();
-    Found {
-        is: false,
-        byte: 0,
-        pending,
-    }
-}
-
-fn larger(a: usize, b: usize) -> usize
-    ensures { result ≡ larger a b }
-{
-    if a < b { b } else { a }
+    None
 }
 
 // The bytes with the least that complete them from a place on.
-pub(crate) fn complete(bytes: [u8; 8], at: usize, n: usize, pending: Pending) -> [u8; 8]
+#[tactic(auto, using(crate::proofs::Searches::completed_end, crate::proofs::Searches::completed_none, crate::proofs::Searches::completed_on))]
+pub(crate) fn complete(bytes: [u8; 8], at: usize, n: usize, pending: Pending) -> Option<[u8; 8]>
     requires { (at ≤ n) × ((n ≤ 8) × Small pending) }
-    ensures { result ≡ sets bytes at (completed (n - at) pending) }
+    ensures { result ≡ stored bytes at (completed (n - at) pending) }
 {
     let mut out = bytes;
     let mut p = pending;
-    let mut i = at;
-    while i < n {
-        let found = least(p, n - 1 - i, 0);
+    for i in at..n {
+        let found = least(p, n - 1 - i, 0)?;
         out[i] = found.byte;
         p = found.pending;
-        i += 1;
     }
-    out
+    Some(out)
 }
 
 // Whether the first n bytes are a test condition.
+#[tactic(auto, using(crate::proofs::Searches::accepts_end, crate::proofs::Searches::accepts_on))]
 pub(crate) fn accepts(given: [u8; 8], n: usize) -> bool
     requires { n ≤ 8 }
     ensures { result ≡ accepts one_condition (take n given) }
 {
-    let mut p = parts::one_condition();
-    let mut i = 0;
-    while i < n {
-        p = parts::onward(p, wide(given[i]), n - 1 - i);
-        i += 1;
-    }
-    parts::fits(p, 0)
-}
-
-// Whether all bytes from a place on are zero.
-pub(crate) fn clear_from(bytes: [u8; 8], at: usize) -> bool
-    requires { at ≤ 8 }
-    ensures { result ≡ clear_from bytes at (8 - at) }
-{
-    let mut i = at;
-    while i < 8 {
-        if bytes[i] == 0 {} else {
+    let mut p = Pending::one_condition();
+    for i in 0..n {
+        let Some(next) = p.onward(given[i], n - 1 - i) else {
             return false;
-        }
-        i += 1;
+        };
+        p = next;
     }
-    true
+    p.fits(0)
 }
 
-// The next bytes of those that agree with the given ones up to a place.
-pub(crate) fn following(given: [u8; 8], at: usize, n: usize, p: Pending) -> Step
+// The next bytes of those that agree with the given ones up to a place, if there are some.
+#[tactic(auto, using(crate::proofs::Searches::following_end, crate::proofs::Searches::following_stays, crate::proofs::Searches::following_rises, crate::proofs::Searches::following_lost))]
+pub(crate) fn following(given: [u8; 8], at: usize, n: usize, p: Pending) -> Option<[u8; 8]>
     requires { (at ≤ n) × ((n ≤ 8) × Small p) }
-    ensures { result ≡ step_of given at (following p (drop at (take n given))) }
+    ensures { result ≡ stored given at (following p (drop at (take n given))) }
 {
-    if at < n {} else {
-        return Step {
-            found: false,
-            bytes: given,
-        };
+    if at == n {
+        return None;
     }
-    let next = parts::onward(p, wide(given[at]), n - 1 - at);
-    let step = following(given, at + 1, n, next);
-    if step.found {
-        step
-    } else {
-        greater_at(given, at, n, p)
+    if let Some(next) = p.onward(given[at], n - 1 - at) {
+        if let Some(bytes) = following(given, at + 1, n, next) {
+            return Some(bytes);
+        }
     }
+    greater_at(given, at, n, p)
 }
 
 // The bytes with the least greater one at a place, and the least behind it.
-fn greater_at(given: [u8; 8], at: usize, n: usize, p: Pending) -> Step
+#[tactic(auto, using(crate::proofs::Searches::greater_none))]
+fn greater_at(given: [u8; 8], at: usize, n: usize, p: Pending) -> Option<[u8; 8]>
     requires { (at < n) × ((n ≤ 8) × Small p) }
-    ensures { result ≡ step_of given at (greater_at (n - 1 - at) p (get_or given at 0)) }
+    ensures { result ≡ stored given at (greater_at (n - 1 - at) p (get_or given at 0)) }
 {
-    let found = least(p, n - 1 - at, wide(given[at]) + 1);
-    if found.is {} else {
-        return Step {
-            found: false,
-            bytes: given,
-        };
-    }
+    let found = least(p, n - 1 - at, given[at].checked_add(1)?)?;
     let mut out = given;
     out[at] = found.byte;
-    let pending = found.pending;
-    let bytes = complete(out, at + 1, n, pending);
-    Step { found: true, bytes }
-}
-
-fn wide(b: u8) -> usize
-    ensures { (result ≡ b) × (result < 256) }
-{
-    b as usize
+    complete(out, at + 1, n, found.pending)
 }

@@ -4,7 +4,7 @@
 
 ghost use Rattle.std.specs.Prelude.{◌+◌, ◌≤◌, ◌<◌, length, IfOk};
 
-use bench::{Listed, Listing};
+use refusal::Refusal;
 use std::io;
 use std::io::{BufWriter, Read, Write};
 
@@ -45,8 +45,8 @@ fn frame<W: Write>(out: &mut W, s: &[u8], at: usize) -> io::Result<usize>
     let n = byte(s, at + 1);
     match byte(s, at) {
         0 => walk(out, n)?,
-        1 => print_listing(out, bench::first(n))?,
-        _ => print_listing(out, bench::next(n, eight(s, at + 2)))?,
+        1 => print_answer(out, bench::first(n).map(Some))?,
+        _ => print_answer(out, bench::next(n, eight(s, at + 2)))?,
     }
     Ok(next)
 }
@@ -66,23 +66,15 @@ fn size(code: u8) -> usize
 
 // The first condition and, from each, the next, to the line that says there is none.
 fn walk<W: Write>(out: &mut W, n: u8) -> io::Result<()> {
-    let mut r = bench::first(n);
+    let mut answer = bench::first(n).map(Some);
     for _ in 0..LINES {
-        print_listing(out, r)?;
-        if !is_condition(r.answer) {
+        print_answer(out, answer)?;
+        let Ok(Some(bytes)) = answer else {
             return Ok(());
-        }
-        r = bench::next(n, r.bytes);
+        };
+        answer = bench::next(n, bytes);
     }
     Ok(())
-}
-
-fn is_condition(a: Listed) -> bool {
-    match a {
-        Listed::Is => true,
-        Listed::Last => false,
-        Listed::Refused(_) => false,
-    }
 }
 
 // Eight bytes from a place on.
@@ -96,13 +88,15 @@ fn eight(s: &[u8], at: usize) -> [u8; 8]
     bytes
 }
 
-fn print_listing<W: Write>(out: &mut W, r: Listing) -> io::Result<()> {
-    match r.answer {
-        Listed::Is => write!(out, "is")?,
-        Listed::Last => write!(out, "none")?,
-        Listed::Refused(n) => write!(out, "refused {n}")?,
+// An answer of either operation, with zeros for bytes where it gives none.
+fn print_answer<W: Write>(out: &mut W, answer: Result<Option<[u8; 8]>, Refusal>) -> io::Result<()> {
+    match answer {
+        Ok(Some(_)) => write!(out, "is")?,
+        Ok(None) => write!(out, "none")?,
+        Err(refusal) => write!(out, "refused {}", refusal.number())?,
     }
-    print_bytes(out, &r.bytes)
+    let bytes = answer.ok().flatten().unwrap_or([0; 8]);
+    print_bytes(out, &bytes)
 }
 
 // A space and two digits for each of eight bytes, and a newline.

@@ -2,7 +2,7 @@
 use mathlib.Core.Path.{◌≡◌, refl}
 use mathlib.Core.Logic.{◌⊎◌, inl, inr}
 use mathlib.Core.Bool.{Bool, true, false, cond, ◌&&◌, ◌||◌}
-use mathlib.Core.Option.{Option, none, some}
+use Rattle.std.specs.Prelude.{Option, None as none, Some as some}
 use mathlib.Core.List.{List, [], ◌∷◌}
 use Prim.Native.Nat.{ℕ, suc, ◌+◌, ◌≤◌, ◌<◌}
 use native.Mathlib.Omega.{arith}
@@ -12,7 +12,9 @@ use Rattle.condition.specs.Parse.{ConditionOperator, op_true, op_not, op_and, op
 use Rattle.bench.specs.declared.parts.Pending.{Pending}
 use Rattle.bench.specs.Walk.{fewest, enough, lowest, limit}
 use Rattle.bench.proofs.Tests.{none_true, pick}
-use Rattle.bench.proofs.LeastBytes.InOrder.{Part, a_condition, a_value, a_number, behind_condition, behind_value, behind_list, behind, counted, holds, kind}
+use Rattle.bench.specs.declared.parts.Part.{Part}
+use Rattle.bench.specs.declared.parts.Part.TheVariants.{Condition as a_condition, Value as a_value, Number as a_number}
+use Rattle.bench.proofs.LeastBytes.InOrder.{behind_condition, behind_value, behind_list, behind, counted, holds}
 
 -- The test, in cases.
 abbrev pub Fit : ℕ → Pending → Type 0
@@ -137,30 +139,28 @@ module _ (k : ℕ) where
   holds_up (some (a_number ∷ p)) h = (0, fit_out k (counted p) (number_up p (fit_in (suc k) (counted (a_number ∷ p)) h)))
 
 -- A part begins with a byte from the lowest on and below the limit.
-abbrev InReach : ℕ → ℕ → Type 0
-InReach n b = (lowest n ≤ b) × (b < limit n)
+abbrev pub InReach : Part → ℕ → Type 0
+InReach a b = (lowest a ≤ b) × (b < limit a)
 
 module _ (k b : ℕ) (p : List Part) where
-  condition_reach : holds k (behind_condition (condition_operator b) p) ≡ true → InReach 1 b
+  condition_reach : holds k (behind_condition (condition_operator b) p) ≡ true → InReach a_condition b
   unfolding condition_operator
   condition_reach =
-      let at = pick (λ o. holds k (behind_condition o p) ≡ true → InReach 1 b) b in
+      let at = pick (λ o. holds k (behind_condition o p) ≡ true → InReach a_condition b) b in
       at 0 op_true _ (λ e h. (omega arith, omega arith)) (at 1 op_not _ (λ e h. (omega arith, omega arith)) (at 2 op_and _ (λ e h. (omega arith, omega arith)) (
       at 3 op_or _ (λ e h. (omega arith, omega arith)) (at 4 op_less _ (λ e h. (omega arith, omega arith)) (at 5 op_equal _ (λ e h. (omega arith, omega arith)) (
       at 6 op_within _ (λ e h. (omega arith, omega arith)) none_true))))))
 
-  value_reach : holds k (behind_value (value_operator b) p) ≡ true → InReach 2 b
+  value_reach : holds k (behind_value (value_operator b) p) ≡ true → InReach a_value b
   unfolding value_operator
   value_reach =
-      let at = pick (λ o. holds k (behind_value o p) ≡ true → InReach 2 b) b in
+      let at = pick (λ o. holds k (behind_value o p) ≡ true → InReach a_value b) b in
       at 16 op_constant _ (λ e. none_true) (at 17 op_program _ (λ e h. (omega arith, omega arith)) (at 18 op_monitor _ (λ e. none_true) (
       at 19 op_at_entry _ (λ e. none_true) (at 20 op_plus _ (λ e h. (omega arith, omega arith)) (at 21 op_minus _ (λ e h. (omega arith, omega arith)) (
       at 22 op_choose _ (λ e h. (omega arith, omega arith)) none_true))))))
 
-pub byte_reach : (k : ℕ) (o : Option (List Part)) (b : ℕ) → holds k (behind o b) ≡ true → InReach (kind o) b
+pub byte_reach : (k : ℕ) (a : Part) (p : List Part) (b : ℕ) → holds k (behind_list (a ∷ p) b) ≡ true → InReach a b
 unfolding behind_list
-byte_reach k none b h = none_true h
-byte_reach k (some []) b h = none_true h
-byte_reach k (some (a_condition ∷ p)) b h = condition_reach k b p h
-byte_reach k (some (a_value ∷ p)) b h = value_reach k b p h
-byte_reach k (some (a_number ∷ p)) b h = pick (λ o. holds k o ≡ true → InReach 3 b) b 0 (some p) none (λ e h. (omega arith, omega arith)) none_true h
+byte_reach k a_condition p b h = condition_reach k b p h
+byte_reach k a_value p b h = value_reach k b p h
+byte_reach k a_number p b h = pick (λ o. holds k o ≡ true → InReach a_number b) b 0 (some p) none (λ e h. (omega arith, omega arith)) none_true h

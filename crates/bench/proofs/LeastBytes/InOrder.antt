@@ -1,19 +1,18 @@
 -- What is pending as a list of parts, in order: the numbers that the functions keep are the list's. Assumes nothing.
-use mathlib.Core.Path.{◌≡◌, refl}
+use mathlib.Core.Path.{◌≡◌, refl, ap, ◌∙◌}
 use mathlib.Core.Bool.{Bool, true, false, cond, ◌&&◌}
-use mathlib.Core.Option.{Option, none, some}
 use mathlib.Core.List.{List, [], ◌∷◌}
 use Prim.Native.Nat.{ℕ, zero, suc, ◌+◌, ◌-◌, ◌*◌, ◌/◌, ◌%◌, ◌≤◌, ◌<◌}
 use native.Mathlib.Omega.{arith}
 use lib.Dec.{eqb, ltb, leb}
-use borrow.Author.Tests.{leb-true, lt-ltb, lt-leb}
+use borrow.Author.Tests.{leb-true, lt-ltb}
 use Rattle.condition.specs.Parse.{ConditionOperator, op_true, op_not, op_and, op_or, op_less, op_equal, op_within, no_condition, condition_operator, ValueOperator, op_constant, op_program, op_monitor, op_at_entry, op_plus, op_minus, op_choose, no_value, value_operator}
+use Rattle.std.specs.Prelude.{Option, None as none, Some as some, option_map, option_and_then}
+use Rattle.bench.specs.declared.parts.Part.{Part}
+use Rattle.bench.specs.declared.parts.Part.TheVariants.{Condition as a_condition, Value as a_value, Number as a_number}
 use Rattle.bench.specs.declared.parts.Pending.{Pending}
-use Rattle.bench.specs.Walk.{nothing, nowhere, with_condition, with_value, with_number, less_condition, less_value, less_number, after_condition, after_value, after, fewest, enough, orders, fits, onward}
-use Rattle.bench.proofs.Tests.{and_parts}
-
-pub data Part : Type 0 where
-  a_condition a_value a_number : Part
+use Rattle.bench.specs.Walk.{nothing, with_condition, with_value, with_number, with_part, less_condition, less_value, less_number, split_first, after_condition, after_value, after_part, after, fewest, enough, orders, fits, fitting, onward}
+use Rattle.std.proofs.lemmas.Bool.{and_parts}
 
 -- What an operator leaves to be written, in front of what follows it; none where it cannot stand there.
 abbrev pub behind_condition : ConditionOperator → List Part → Option (List Part)
@@ -50,13 +49,10 @@ behind (some p) b = behind_list p b
 -- The numbers that stand for it.
 unfoldable pub counted : List Part → Pending
 counted [] = nothing
-counted (a_condition ∷ p) = with_condition (counted p)
-counted (a_value ∷ p) = with_value (counted p)
-counted (a_number ∷ p) = with_number (counted p)
+counted (a ∷ p) = with_part a (counted p)
 
-abbrev pub shown : Option (List Part) → Pending
-shown none = nowhere
-shown (some p) = counted p
+abbrev pub shown : Option (List Part) → Option Pending
+shown o = option_map counted o
 
 -- Exactly k bytes can hold it.
 abbrev pub holds : ℕ → Option (List Part) → Bool
@@ -97,33 +93,25 @@ module _ (p : Pending) where
   number_less : less_number (with_number p) ≡ p
   number_less = let e : (p.order * 4 + 3) / 4 ≡ p.order = omega arith in let f : p.numbers + 1 - 1 ≡ p.numbers = omega arith in rw (e, f)
 
--- The kind of the first part.
-abbrev pub kind : Option (List Part) → ℕ
-kind none = 0
-kind (some []) = 0
-kind (some (a_condition ∷ p)) = 1
-kind (some (a_value ∷ p)) = 2
-kind (some (a_number ∷ p)) = 3
-
-pub kind_shown : (o : Option (List Part)) → (shown o).order % 4 ≡ kind o
+pub split_shown : (a : Part) (p : List Part) → split_first (counted (a ∷ p)) ≡ some (a, counted p)
 unfolding counted
-kind_shown none = refl
-kind_shown (some []) = refl
-kind_shown (some (a_condition ∷ p)) = omega arith
-kind_shown (some (a_value ∷ p)) = omega arith
-kind_shown (some (a_number ∷ p)) = omega arith
+split_shown a_condition p = let e : ((counted p).order * 4 + 1) % 4 ≡ 1 = omega arith in rw (e, condition_less (counted p))
+split_shown a_value p = let e : ((counted p).order * 4 + 2) % 4 ≡ 2 = omega arith in rw (e, value_less (counted p))
+split_shown a_number p = let e : ((counted p).order * 4 + 3) % 4 ≡ 3 = omega arith in rw (e, number_less (counted p))
 
-pub after_shown : (o : Option (List Part)) (b : ℕ) → after (shown o) b ≡ shown (behind o b)
+pub after_shown : (p : List Part) (b : ℕ) → after (counted p) b ≡ shown (behind_list p b)
 unfolding after counted behind_list
-after_shown none b = refl
-after_shown (some []) b = refl
-after_shown (some (a_condition ∷ p)) b = rw (kind_shown (some (a_condition ∷ p)), condition_less (counted p)) (condition_shown p (condition_operator b))
-after_shown (some (a_value ∷ p)) b = rw (kind_shown (some (a_value ∷ p)), value_less (counted p)) (value_shown p (value_operator b))
-after_shown (some (a_number ∷ p)) b = rw (kind_shown (some (a_number ∷ p)), number_less (counted p)) (go (eqb b 0))
+after_shown [] b = refl
+after_shown (a ∷ p) b = ap (option_and_then (after_part b)) (split_shown a p) ∙ go a
   where
-    go : (t : Bool) → cond t (counted p) nowhere ≡ shown (cond t (some p) none)
-    go true = refl
-    go false = refl
+    number : (t : Bool) → cond t (some (counted p)) none ≡ shown (cond t (some p) none)
+    number true = refl
+    number false = refl
+
+    go : (a : Part) → after_part b (a, counted p) ≡ shown (behind_list (a ∷ p) b)
+    go a_condition = condition_shown p (condition_operator b)
+    go a_value = value_shown p (value_operator b)
+    go a_number = number (eqb b 0)
 
 -- The order of what k bytes can hold is below 4 ^ k.
 abbrev power : ℕ → ℕ
@@ -144,11 +132,14 @@ order_below (suc k) (a_condition ∷ p) h = let l = order_below k p (omega arith
 order_below (suc k) (a_value ∷ p) h = let l = order_below k p (omega arith) in omega arith
 order_below (suc k) (a_number ∷ p) h = let l = order_below k p (omega arith) in omega arith
 
+-- What k bytes can hold of it.
+abbrev pub kept : ℕ → Option (List Part) → Option (List Part)
+kept k o = option_and_then (λ p. cond (enough (counted p) k) (some p) none) o
+
 module _ (k : ℕ) (l : k ≤ 8) where
-  pub fits_shown : (o : Option (List Part)) → fits (shown o) k ≡ holds k o
+  pub fits_shown : (p : List Part) → fits (counted p) k ≡ enough (counted p) k
   unfolding fits
-  fits_shown none = rw (lt-leb 9 k (omega arith))
-  fits_shown (some p) = go (enough (counted p) k) refl
+  fits_shown p = go (enough (counted p) k) refl
     where
       no : (t : Bool) → t && false ≡ false
       no true = refl
@@ -161,8 +152,16 @@ module _ (k : ℕ) (l : k ≤ 8) where
           rw (lt-ltb (counted p).order orders h)
       go false e = no (ltb (counted p).order orders)
 
-  pub onward_shown : (o : Option (List Part)) (b : ℕ) → onward (shown o) b k ≡ cond (holds k (behind o b)) (shown (behind o b)) nowhere
-  onward_shown o b = rw (after_shown o b, fits_shown (behind o b))
+  pub onward_shown : (p : List Part) (b : ℕ) → onward (counted p) b k ≡ shown (kept k (behind_list p b))
+  onward_shown p b = ap (option_and_then (fitting k)) (after_shown p b) ∙ go (behind_list p b)
+    where
+      pick : (q : List Part) (t : Bool) → cond t (some (counted q)) none ≡ shown (cond t (some q) none)
+      pick q true = refl
+      pick q false = refl
+
+      go : (o : Option (List Part)) → option_and_then (fitting k) (shown o) ≡ shown (kept k o)
+      go none = refl
+      go (some q) = rw (fits_shown q) (pick q (enough (counted q) k))
 
 -- Bytes that are exactly what is pending.
 unfoldable pub admits : Option (List Part) → List ℕ → Bool

@@ -1,4 +1,4 @@
--- `following` meets its contract: what is left of the n bytes falls. Assumes nothing.
+-- `following` ends: what is left of the n bytes falls. Assumes nothing.
 use Prim.Native.Nat.{◌-◌}
 use Rattle.bench.proofs.search.+following.Given as goal
 
