@@ -7,7 +7,7 @@ ghost use Rattle.step.specs.Calls.{most_calls, most_armed};
 ghost use Rattle.engine.specs.Plan.{cell_of, candidate_of, post_of};
 ghost use Rattle.engine.specs.Walk.{holds_by, count_by, found_in, found_count, armed_in, armed_count, low_in, low_count, main_after, variables_after, action_count_after, run_after, words, entered_in, exited_in, entered_count, exited_count};
 
-use crate::{Advanced, Given, PLAN, Running, broad, long, place, row, wide};
+use crate::{Advanced, Given, PLAN, Running, row};
 use condition::{Held, VARIABLES};
 use step::{ARMED, VALUES};
 
@@ -56,11 +56,11 @@ pub(crate) fn entered(
     ensures variables_after { words result.run row.new variables.new ≡ entered_in s.now plan.now (words run row.old variables.old) given values.now }
     ensures count_value { result.count ≡ entered_count s.now plan.now (words run row.old variables.old) given values.now }
 {
-    let program = condition::front(&values[..], broad(plan[1]));
-    let monitor = condition::front(&variables[..], broad(plan[2]));
+    let program = condition::front(&values[..], usize::from(plan[1]));
+    let monitor = condition::front(&variables[..], usize::from(plan[2]));
     let cell = cell_of(run.main, given.unit);
-    let found = find(s, plan, broad(plan[8 + 2 * cell]), program, monitor);
-    let at = 16 * wide(run.opened);
+    let found = find(s, plan, usize::from(plan[8 + 2 * cell]), program, monitor);
+    let at = 16 * usize::from(run.opened);
     let first = candidate(plan, cell, found.transition);
     row::put(row, at, given, run.position + 1, values);
     let asked = arm(s, plan, first, program, monitor, row, at);
@@ -85,13 +85,13 @@ pub(crate) fn exited(
     ensures variables_after { words result.run row.new variables.new ≡ exited_in s.now plan.now (words run row.old variables.old) leaving.unit leaving.place values.now }
     ensures count_value { result.count ≡ exited_count s.now plan.now (words run row.old variables.old) leaving.unit leaving.place values.now }
 {
-    let program = condition::front(&values[..], broad(plan[1]));
-    let monitor = condition::front(&variables[..], broad(plan[2]));
+    let program = condition::front(&values[..], usize::from(plan[1]));
+    let monitor = condition::front(&variables[..], usize::from(plan[2]));
     let low = lowest_failing(s, plan, row, leaving.place, program, monitor);
     let entry = row[leaving.place + 7];
-    row::close(row, leaving.place, wide(run.opened));
+    row::close(row, leaving.place, usize::from(run.opened));
     let cell = cell_of(run.main, leaving.unit);
-    let found = find(s, plan, broad(plan[9 + 2 * cell]), program, monitor);
+    let found = find(s, plan, usize::from(plan[9 + 2 * cell]), program, monitor);
     let to = moved(s, plan, found.transition, run.main, variables, values);
     Advanced {
         run: after(
@@ -125,7 +125,7 @@ fn after(plan: &[u16; PLAN], position: u32, main: u8, opened: u8, low: u16, entr
 pub(crate) fn cell_of(main: u8, unit: u8) -> usize
     ensures { (result ≡ cell_of main unit) × (result < 256) }
 {
-    (16 * wide(main) + wide(unit)) % 256
+    (16 * usize::from(main) + usize::from(unit)) % 256
 }
 
 // The first candidate of an entry: of its state and unit, or of the transition that is taken.
@@ -134,9 +134,9 @@ fn candidate(plan: &[u16; PLAN], cell: usize, t: usize) -> usize
     ensures { (result ≡ candidate_of plan.now cell t) × (result < 65536) }
 {
     if plan[4] == 0 {
-        broad(plan[936 + cell])
+        usize::from(plan[936 + cell])
     } else {
-        broad(plan[936 + t])
+        usize::from(plan[936 + t])
     }
 }
 
@@ -154,7 +154,13 @@ fn find<'a>(
     let mut t = first;
     let mut count = 0;
     while t < 96 {
-        let held = holds(s, broad(plan[552 + 4 * t]), program, monitor, &program[..0]);
+        let held = holds(
+            s,
+            usize::from(plan[552 + 4 * t]),
+            program,
+            monitor,
+            &program[..0],
+        );
         count += held.count;
         if held.holds {
             return Found {
@@ -162,7 +168,7 @@ fn find<'a>(
                 count,
             };
         }
-        t = t + 1 + broad(plan[555 + 4 * t]);
+        t = t + 1 + usize::from(plan[555 + 4 * t]);
     }
     Found {
         transition: 96,
@@ -184,11 +190,11 @@ fn moved(
     ensures { (result.main ≡ main_after plan.now t main) × (variables.new ≡ variables_after s.now plan.now t values.now variables.old) × (result.count ≡ action_count_after s.now plan.now t values.now variables.old) }
 {
     if t < 96 {
-        let at = broad(plan[553 + 4 * t]);
+        let at = usize::from(plan[553 + 4 * t]);
         let mut count = 0;
         if at == 0 {} else {
-            let program = condition::front(&values[..], broad(plan[1]));
-            count = condition::perform_at(s, at, program, variables, broad(plan[2]));
+            let program = condition::front(&values[..], usize::from(plan[1]));
+            count = condition::perform_at(s, at, program, variables, usize::from(plan[2]));
         }
         Led {
             main: (plan[554 + 4 * t] % 256) as u8,
@@ -221,7 +227,7 @@ fn arm<'a>(
     while i < 384 {
         let held = holds(
             s,
-            broad(plan[1192 + 3 * i]),
+            usize::from(plan[1192 + 3 * i]),
             program,
             monitor,
             &program[..0],
@@ -229,12 +235,12 @@ fn arm<'a>(
         evaluated += held.count;
         if held.holds {
             if count < MOST_ARMED {
-                row[to] = long(plan[1193 + 3 * i]);
+                row[to] = u32::from(plan[1193 + 3 * i]);
                 to += 1;
             }
             count += 1;
         }
-        i = i + 1 + broad(plan[1194 + 3 * i]);
+        i = i + 1 + usize::from(plan[1194 + 3 * i]);
     }
     row[at + 2] = count;
     evaluated
@@ -254,19 +260,17 @@ fn lowest_failing<'a>(
     ensures { (result.number ≡ low_in s.now plan.now row.now at program.now monitor.now) × (result.count ≡ low_count s.now plan.now row.now at program.now monitor.now) }
 {
     let all = &row[..];
-    let kept = condition::front(&all[at + 8..at + 16], broad(plan[1]));
+    let kept = condition::front(&all[at + 8..at + 16], usize::from(plan[1]));
     let count = four(row[at + 2]);
     let mut number = 256;
     let mut evaluated = 0;
-    let mut i = 0;
-    while i < count {
+    for i in 0..count {
         let n = row[at + 3 + i];
         let held = holds(s, post(plan, n), program, monitor, kept);
         evaluated += held.count;
         if held.holds {} else {
             number = lesser(number, n);
         }
-        i += 1;
     }
     Lowest {
         number,
@@ -278,25 +282,25 @@ fn lowest_failing<'a>(
 pub(crate) fn four(count: u32) -> usize
     ensures { (result ≡ min count most_armed) × (result ≤ most_armed) }
 {
-    if count < MOST_ARMED {
-        place(count)
-    } else {
-        ARMED
-    }
+    (count as usize).min(ARMED)
 }
 
 fn lesser(low: u16, n: u32) -> u16
     ensures { result ≡ min low n }
 {
-    if n < long(low) { n as u16 } else { low }
+    u32::from(low).min(n) as u16
 }
 
 // Where the postcondition of a number stands.
 fn post(plan: &[u16; PLAN], n: u32) -> usize
     ensures { result ≡ post_of plan.now n }
 {
-    let i = place(n);
-    if i < 32 { broad(plan[520 + i]) } else { 0 }
+    let i = n as usize;
+    if i < 32 {
+        usize::from(plan[520 + i])
+    } else {
+        0
+    }
 }
 
 // Whether the condition at a place holds, and how much of it was evaluated; 0 stands for `true`.

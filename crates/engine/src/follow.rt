@@ -11,7 +11,7 @@ ghost use Rattle.step.specs.Calls.{most_values};
 ghost use Rattle.step.specs.Answers.{run_paper, ran_answer};
 ghost use Rattle.engine.specs.Runs.{start_in, follow_in, follow_count, ends_by, given_at};
 
-use crate::{Given, PLAN, Running, advance, place, wide};
+use crate::{Given, PLAN, Running, advance};
 use condition::VARIABLES;
 use step::{Counted, RunAnswer, VALUES};
 
@@ -21,9 +21,9 @@ pub(crate) fn follow(s: &[u8], plan: &[u16; PLAN], log: &[u8], programs: u8) -> 
     ensures answer_value { run_paper result.answer ≡ ran_answer ends_by (follow_in s.now plan.now (events_of programs log.now)) }
     ensures count_value { result.count ≡ follow_count s.now plan.now (events_of programs log.now) }
 {
-    let count = wide(programs);
+    let count = usize::from(programs);
     let size = 4 + 4 * count;
-    let end = place(sheet::word_at(log, 0));
+    let end = sheet::word_at(log, 0) as usize;
     let mut run = started(s);
     let mut row = [0u32; 256];
     let mut variables = initial(s);
@@ -41,7 +41,7 @@ pub(crate) fn follow(s: &[u8], plan: &[u16; PLAN], log: &[u8], programs: u8) -> 
                 return counted(RunAnswer::RefusedAt(reason, i), total);
             }
         };
-        total += double(next.count);
+        total += u64::from(next.count);
         run = next.run;
         if let Some(v) = run.outcome {
             return counted(RunAnswer::Violated(v), total);
@@ -55,12 +55,6 @@ fn counted(answer: RunAnswer, count: u64) -> Counted
     ensures { result ≡ record { answer = answer; count = count } }
 {
     Counted { answer, count }
-}
-
-fn double(x: u32) -> u64
-    ensures { result ≡ x }
-{
-    x as u64
 }
 
 // What is beside calls and variables before the first event.
@@ -93,8 +87,8 @@ fn given_at(log: &[u8], at: usize, programs: u8) -> Given
     Given {
         kind: log[at],
         unit: log[at + 1],
-        number: (wide(log[at + 2]) * 256 + wide(log[at + 3])) as u16,
-        count: wide(programs),
+        number: u16::from_be_bytes([log[at + 2], log[at + 3]]),
+        count: usize::from(programs),
     }
 }
 
@@ -103,12 +97,10 @@ fn read_values(log: &[u8], at: usize, n: usize, values: &mut [u32; VALUES])
     requires { (at + 4 * n ≤ length log.now) × (n ≤ most_values) }
     ensures { values.new ≡ sets values.old 0 (table word_form n log.now at) }
 {
-    let mut i = 0;
     let mut here = at;
-    while i < n {
+    for i in 0..n {
         values[i] = word_at(log, here);
         here += 4;
-        i += 1;
     }
 }
 
@@ -117,6 +109,5 @@ fn word_at(log: &[u8], at: usize) -> u32
     requires { at + 4 ≤ length log.now }
     ensures { result ≡ word log.now at }
 {
-    (((wide(log[at]) * 256 + wide(log[at + 1])) * 256 + wide(log[at + 2])) * 256
-        + wide(log[at + 3])) as u32
+    u32::from_be_bytes([log[at], log[at + 1], log[at + 2], log[at + 3]])
 }

@@ -131,7 +131,7 @@ fn unread(reason: Refusal) -> Counted
 fn length_said(s: &[u8]) -> usize
     ensures { (result ≡ half s.now 0) × (result < 65536) }
 {
-    wide(sheet::byte_at(s, 0)) * 256 + wide(sheet::byte_at(s, 1))
+    usize::from(sheet::byte_at(s, 0)) * 256 + usize::from(sheet::byte_at(s, 1))
 }
 
 // Offers one event: 9 to 15, or taken. A refused event alters nothing.
@@ -150,7 +150,7 @@ pub fn advance(
     if run.opened <= MOST_OPENED {} else {
         return Err(Refusal::Unsound);
     }
-    let place = row::place_of(row, wide(run.opened), long(given.number));
+    let place = row::place_of(row, usize::from(run.opened), u32::from(given.number));
     row::admit(plan, run, row, given, place)?;
     if given.kind == 0 {
         Ok(event::entered(s, plan, run, row, variables, given, values))
@@ -161,40 +161,4 @@ pub fn advance(
         };
         Ok(event::exited(s, plan, run, row, variables, leaving, values))
     }
-}
-
-pub(crate) fn wide(x: u8) -> usize
-    ensures { (result ≡ x) × (result < 256) }
-{
-    x as usize
-}
-
-pub(crate) fn word(x: u8) -> u32
-    ensures { (result ≡ x) × (result < 256) }
-{
-    x as u32
-}
-
-pub(crate) fn short(x: u8) -> u16
-    ensures { (result ≡ x) × (result < 256) }
-{
-    x as u16
-}
-
-pub(crate) fn broad(x: u16) -> usize
-    ensures { (result ≡ x) × (result < 65536) }
-{
-    x as usize
-}
-
-pub(crate) fn long(x: u16) -> u32
-    ensures { (result ≡ x) × (result < 65536) }
-{
-    x as u32
-}
-
-pub(crate) fn place(x: u32) -> usize
-    ensures { (result ≡ x) × (result < 4294967296) }
-{
-    x as usize
 }

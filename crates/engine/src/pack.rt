@@ -5,7 +5,7 @@ ghost use Rattle.step.specs.Calls.{most_values, most_armed, event_of};
 ghost use Rattle.engine.specs.Packed.{put_at, call_at, arms_at};
 ghost use Rattle.engine.specs.Walk.{given_of};
 
-use crate::{Given, event, long, word};
+use crate::{Given, event};
 use sheet::Record;
 use step::{ARMED, CALLS, Call};
 
@@ -20,19 +20,19 @@ pub struct Arms {
 pub fn put(row: &mut [u32; 256], i: usize, call: Call, arms: Arms)
     ensures { (row.new ≡ put_at row.old i call arms) × (call.number < 65536) × (call.unit < 256) × (length call.kept ≡ most_values) × (length arms.numbers ≡ most_armed) }
 {
-    let number = long(call.number);
-    let unit = word(call.unit);
+    let number = u32::from(call.number);
+    let unit = u32::from(call.unit);
     let kept = call.kept;
     let numbers = arms.numbers;
     if i < CALLS {
         let at = 16 * i;
         row[at] = number;
         row[at + 1] = unit;
-        row[at + 2] = word(arms.count);
-        row[at + 3] = word(numbers[0]);
-        row[at + 4] = word(numbers[1]);
-        row[at + 5] = word(numbers[2]);
-        row[at + 6] = word(numbers[3]);
+        row[at + 2] = u32::from(arms.count);
+        row[at + 3] = u32::from(numbers[0]);
+        row[at + 4] = u32::from(numbers[1]);
+        row[at + 5] = u32::from(numbers[2]);
+        row[at + 6] = u32::from(numbers[3]);
         row[at + 7] = call.entry;
         row[at + 8] = kept[0];
         row[at + 9] = kept[1];
@@ -97,8 +97,8 @@ fn below(first: bool, n: u32) -> u8
 pub fn given(event: Record, values: &[u32]) -> Given
     ensures { (result ≡ given_of (event_of event values.now)) × (event.number < 65536) × (event.unit < 256) }
 {
-    let number = long(event.number);
-    let unit = word(event.unit);
+    let number = u32::from(event.number);
+    let unit = u32::from(event.unit);
     Given {
         kind: event.kind,
         unit: event.unit,

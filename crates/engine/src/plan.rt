@@ -11,7 +11,7 @@ ghost use Rattle.engine.specs.Plan.{absent, key_of};
 ghost use Rattle.engine.specs.Prepared.{start_of, text_place, action_place, linked, with_transition, with_pairs, with_transitions, with_triple, post_words, head_words, sheet_into, network_into};
 
 use crate::event::cell_of;
-use crate::{ABSENT, PLAN, short, wide, word};
+use crate::{ABSENT, PLAN};
 use sheet::Header;
 
 // Puts an accepted sheet into a plan.
@@ -52,9 +52,9 @@ pub(crate) fn of_network(s: &[u8], plan: &mut [u16; PLAN])
 fn heads(h: Header, paired: u16, last: u32, plan: &mut [u16; PLAN])
     ensures { plan.new ≡ sets plan.old 0 (head_words h paired last) }
 {
-    plan[0] = short(h.units);
-    plan[1] = short(h.programs);
-    plan[2] = short(h.monitors);
+    plan[0] = u16::from(h.units);
+    plan[1] = u16::from(h.programs);
+    plan[2] = u16::from(h.monitors);
     plan[3] = h.bad;
     plan[4] = paired;
     plan[5] = (last % 65536) as u16;
@@ -63,8 +63,7 @@ fn heads(h: Header, paired: u16, last: u32, plan: &mut [u16; PLAN])
 fn at_most(n: u8, most: usize) -> usize
     ensures { (result ≡ min n most) × (result ≤ most) }
 {
-    let m = wide(n);
-    if m < most { m } else { most }
+    usize::from(n).min(most)
 }
 
 // Where each of n transitions stands.
@@ -73,12 +72,10 @@ fn places(s: &[u8], at: u32, n: usize, paired: bool) -> [u32; 96]
     ensures { (result ≡ fit 96 0 (starts (base_form paired) n s.now at)) × (every (λ x. leb x 1000000) result ≡ true) }
 {
     let mut out = [0u32; 96];
-    let mut i = 0;
     let mut here = at;
-    while i < n {
+    for i in 0..n {
         out[i] = here;
-        here = here + size(s, here, paired);
-        i += 1;
+        here += size(s, here, paired);
     }
     out
 }
@@ -89,7 +86,7 @@ fn size(s: &[u8], at: u32, paired: bool) -> u32
     ensures { (result ≡ (base_form paired).size (drop at s.now)) × (result ≤ 517) }
 {
     if paired {
-        7 + 2 * word(sheet::byte_at(s, at + 6))
+        7 + 2 * u32::from(sheet::byte_at(s, at + 6))
     } else {
         6
     }
@@ -137,7 +134,7 @@ fn transition(
     let to = 552 + 4 * i;
     plan[to] = text(s, conditions, t.condition);
     plan[to + 1] = action(s, actions, t.action);
-    plan[to + 2] = short(t.to);
+    plan[to + 2] = u16::from(t.to);
     plan[to + 3] = gap;
     plan[key] = i as u16;
 }
@@ -155,7 +152,7 @@ fn pairs(s: &[u8], conditions: &[u32; 161], i: usize, at: u32, plan: &mut [u16; 
         left -= 1;
         let p = sheet::pair_at(s, from);
         plan[to] = text(s, conditions, p.condition);
-        plan[to + 1] = short(p.template);
+        plan[to + 1] = u16::from(p.template);
         plan[to + 2] = pick(left == 0, 0);
         from += 2;
         to += 3;
@@ -204,12 +201,10 @@ fn posts(s: &[u8], conditions: &[u32; 161], at: u32, n: usize, size: u32, plan: 
     requires { (n ≤ 32) × (at ≤ 100000000) × (1 ≤ size) × (size ≤ 4) }
     ensures { plan.new ≡ sets plan.old 520 (post_words s.now conditions.now size n at) }
 {
-    let mut i = 0;
     let mut here = at;
-    while i < n {
+    for i in 0..n {
         plan[520 + i] = text(s, conditions, sheet::byte_at(s, here + (size - 1)));
         here += size;
-        i += 1;
     }
 }
 
@@ -242,7 +237,7 @@ fn start(index: &[u32; 161], i: u8) -> u32
     ensures { (result ≡ start_of index.now i) × (result < 65536) }
 {
     let all = &index[..];
-    let k = wide(i);
+    let k = usize::from(i);
     if k < all.len() { all[k] % 65536 } else { 0 }
 }
 
@@ -265,5 +260,5 @@ fn behind(next: u16, i: usize) -> u16
 fn key_of(state: u8, unit: u8, kind: u8) -> usize
     ensures { (result ≡ key_of state unit kind) × (result < 512) }
 {
-    (2 * cell_of(state, unit) + wide(kind)) % 512
+    (2 * cell_of(state, unit) + usize::from(kind)) % 512
 }

@@ -6,7 +6,7 @@ ghost use Rattle.std.proofs.lemmas.List.Edits.{sets};
 ghost use Rattle.step.specs.Calls.{most_calls};
 ghost use Rattle.engine.specs.Walk.{code_of, place_in, entry_refusal, exit_refusal, refusal_in, row_without};
 
-use crate::{Given, PLAN, Running, broad, long, wide, word};
+use crate::{Given, PLAN, Running};
 use refusal::Refusal;
 use step::{CALLS, VALUES};
 
@@ -42,7 +42,8 @@ pub(crate) fn admit(
         return Err(Refusal::Judged);
     }
     if (given.kind <= 1)
-        & ((wide(given.unit) < broad(plan[0])) & (given.count == broad(plan[1])))
+        & ((usize::from(given.unit) < usize::from(plan[0]))
+            & (given.count == usize::from(plan[1])))
     {} else {
         return Err(Refusal::Unfit);
     }
@@ -50,9 +51,9 @@ pub(crate) fn admit(
         return Err(Refusal::LastPosition);
     }
     if given.kind == 0 {
-        admit_entry(wide(run.opened), place)
+        admit_entry(usize::from(run.opened), place)
     } else {
-        admit_exit(row, wide(run.opened), place, word(given.unit))
+        admit_exit(row, usize::from(run.opened), place, u32::from(given.unit))
     }
 }
 
@@ -95,8 +96,8 @@ pub(crate) fn put(row: &mut [u32; 256], at: usize, given: Given, entry: u32, val
     ensures { row.new ≡ sets (sets row.old at (given.number ∷ given.unit ∷ [])) (at + 7) (entry ∷ values.now) }
 {
     let v = &values[..];
-    row[at] = long(given.number);
-    row[at + 1] = word(given.unit);
+    row[at] = u32::from(given.number);
+    row[at + 1] = u32::from(given.unit);
     row[at + 7] = entry;
     row[at + 8] = v[0];
     row[at + 9] = v[1];
@@ -113,13 +114,5 @@ pub(crate) fn close(row: &mut [u32; 256], place: usize, opened: usize)
     requires { (place + 16 ≤ 16 * opened) × (opened ≤ most_calls) }
     ensures { row.new ≡ row_without row.old place opened }
 {
-    let all = &mut row[..];
-    let end = 16 * opened;
-    let mut to = place;
-    let mut from = to + 16;
-    while from < end {
-        all[to] = all[from];
-        to += 1;
-        from += 1;
-    }
+    row.copy_within(place + 16..16 * opened, place);
 }

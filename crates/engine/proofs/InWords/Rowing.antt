@@ -1,14 +1,15 @@
 -- What the loops over the row of words leave. Assumes nothing.
 use mathlib.Core.Path.{◌≡◌, refl, sym, ap, ◌∙◌}
-use mathlib.Core.List.{List, [], ◌∷◌}
-use Prim.Native.Nat.{ℕ, zero, suc, ◌+◌, ◌*◌, ◌≤◌, ◌<◌}
+use mathlib.Core.List.{List, [], ◌∷◌, ◌++◌}
+use Prim.Native.Nat.{ℕ, zero, suc, ◌+◌, ◌-◌, ◌*◌, ◌≤◌, ◌<◌}
 use native.Mathlib.Nat.{add-suc}
 use native.Mathlib.Numerals.{add-one}
 use native.Mathlib.Omega.{arith}
 use borrow.Author.Tests.{eq-eqb, ne_eqb}
 use lib.Dec.{eqb}
-use lib.ListN.{length, get_or, set, take, drop, length-set, length-take, drop_of_length-le}
-use lib.Seq.{sets, slice, drop-cons, slice-cons, take-set-lt, drop-set-lt}
+use lib.ListN.{length, get_or, set, take, drop, drop_of_length-le}
+use lib.Seq.{sets, sets-eq, slice, length-slice, paste, drop-cons}
+use Rattle.std.proofs.lemmas.List.{drop-take}
 use Rattle.step.proofs.OnLists.Searching.{Passed, passed_none, passed_end, passed_found, passed_more}
 use Rattle.engine.specs.Walk.{entries, place_in, row_without}
 use Rattle.engine.proofs.InWords.Entries.{length_entries, word_at}
@@ -47,32 +48,17 @@ module _ (number opened : ℕ) (row : List ℕ) where
             there = omega (arith, g.there);
           }
 
--- Moving the words behind a call forward: the next goes from `from` to `to`.
-pub record Closing (old : List ℕ) (place opened end : ℕ) (row : List ℕ) (to from : ℕ) : Type 0 where
-  pub same : sets row to (slice from end row) ≡ row_without old place opened
-  pub long : length row ≡ length old
-  pub behind : to + 16 ≡ from
-  pub last : end ≡ 16 * opened
-
-module _ (old : List ℕ) (place opened : ℕ) where
-  pub closing_start : Closing old place opened (16 * opened) old place (place + 16)
-  unfolding row_without
-  closing_start = record { same = refl; long = refl; behind = refl; last = refl }
-
-  module _ (end : ℕ) (row : List ℕ) (to from : ℕ) (g : Closing old place opened end row to from) where
-    pub closing_end : end ≤ from → row ≡ row_without old place opened
-    closing_end h = rw (drop_of_length-le (take end row) {i = from} (omega (arith, length-take end row))) at g.same
-
-    pub closing_next : from < end → end ≤ length row → Closing old place opened end (set row to (get_or row from 0)) (to + 1) (from + 1)
-    closing_next h k =
-        let x = get_or row from 0 in
-        let away : slice (suc from) end (set row to x) ≡ slice (suc from) end row = ap (drop (suc from)) (take-set-lt end row to x (omega (arith, g.behind))) ∙ drop-set-lt (suc from) (take end row) to x (omega (arith, g.behind)) in
-        record {
-          same = rw (add-one to, add-one from, away) (rw (slice-cons from end row 0 h k) at g.same);
-          long = length-set row to x ∙ g.long;
-          behind = omega (arith, g.behind);
-          last = g.last;
-        }
+-- The words behind a call moved to its place.
+pub closed_up : (row : List ℕ) (place opened : ℕ) → place + 16 ≤ 16 * opened → 16 * opened ≤ length row → paste row place (drop (place + 16) row) (16 * opened - (place + 16)) ≡ row_without row place opened
+unfolding row_without
+closed_up row place opened h k =
+    let f = place + 16 in
+    let t = 16 * opened in
+    let n = t - f in
+    let whole : f + n ≡ t = omega arith in
+    let moved : take n (drop f row) ≡ slice f t row = sym (drop-take f n row) ∙ ap (λ (m : ℕ). drop f (take m row)) whole in
+    let long : length (slice f t row) ≡ n = length-slice f t row k in
+    (λ i. take place row ++ moved i ++ drop (place + (sym long) i) row) ∙ sym (sets-eq (slice f t row) row place (omega (arith, long)))
 
 -- n elements of a list from a place on, and all of them
 abbrev pub reads : List ℕ → ℕ → ℕ → List ℕ

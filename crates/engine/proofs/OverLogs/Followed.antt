@@ -56,10 +56,10 @@ unfolding start_in
 started_words s r e variables f = λ i. words (e i) (replicate 256 0) (f i)
 
 -- The record at a place.
-pub given_read : (log : List ℕ) (at P a b n : ℕ) → a ≡ byte log (at + 2) → b ≡ byte log (at + 3) → n ≡ P → record { kind = byte log at; unit = byte log (at + 1); number = a * 256 + b; count = n } ≡ given_at log at P
-given_read log at P a b n e f g =
+pub given_read : (log : List ℕ) (at P number n : ℕ) → number ≡ byte log (at + 2) * 256 + byte log (at + 3) → n ≡ P → record { kind = byte log at; unit = byte log (at + 1); number = number; count = n } ≡ given_at log at P
+given_read log at P number n e g =
     let next : at + 3 ≡ at + 2 + 1 = omega arith in
-    rw (e, f, g, next)
+    rw (e, g, next)
 
 -- Reading n values into words, i of them read.
 pub record Filling (n : ℕ) (log : List ℕ) (at : ℕ) (old values : List ℕ) (i here : ℕ) : Type 0 where

@@ -20,7 +20,7 @@ pub returns-in_err-admit : goal.returns-in_err-admit
 returns-in_err-admit c =
     let a = c.args in
     let all = told _ _ (words a.run a.row.now a.variables.now) _ _
-    (offer_refused a.s.now a.plan.now a.run a.row.now a.variables.now a.given a.values.now c.if-run-le-MOST_OPENED.true _ c.wide.ensures.0 _ c.long.ensures.0 _ c.place_of-place.ensures _ c.in_err-admit.ensures (number_above _)) _ refl in
+    (offer_refused a.s.now a.plan.now a.run a.row.now a.variables.now a.given a.values.now c.if-run-le-MOST_OPENED.true _ c.from.ensures _ c.from-2.ensures _ c.place_of-place.ensures _ c.in_err-admit.ensures (number_above _)) _ refl in
     let e = err_from_is_err_and c.from_residual.result c.from_residual.ensures.1 in
     rw (e.1, e.2) record { value = all.0; row_after = all.1 }
 
@@ -43,12 +43,12 @@ pub returns-then-given-eq0 : goal.returns-then-given-eq0
 returns-then-given-eq0 c =
     let a = c.args in
     let all = told _ _ (words c.entered.result.run _ _) _ _
-    (offer_entry a.s.now a.plan.now a.run a.row.now a.variables.now a.given a.values.now c.if-run-le-MOST_OPENED.true _ c.wide.ensures.0 _ c.long.ensures.0 _ c.place_of-place.ensures _ c.in_ok-admit.ensures refl _ _ c.if-given-eq0.true (c.entered.ensures.variables_after, c.entered.ensures.count_value)) _ refl in
+    (offer_entry a.s.now a.plan.now a.run a.row.now a.variables.now a.given a.values.now c.if-run-le-MOST_OPENED.true _ c.from.ensures _ c.from-2.ensures _ c.place_of-place.ensures _ c.in_ok-admit.ensures refl _ _ c.if-given-eq0.true (c.entered.ensures.variables_after, c.entered.ensures.count_value)) _ refl in
     record { value = all.0; row_after = all.1 }
 
 pub returns-else-given-eq0 : goal.returns-else-given-eq0
 returns-else-given-eq0 c =
     let a = c.args in
     let all = told _ _ (words c.exited.result.run _ _) _ _
-    (offer_exit a.s.now a.plan.now a.run a.row.now a.variables.now a.given a.values.now c.if-run-le-MOST_OPENED.true _ c.wide.ensures.0 _ c.long.ensures.0 _ c.place_of-place.ensures _ c.in_ok-admit.ensures refl _ _ c.if-given-eq0.false (c.exited.ensures.variables_after, c.exited.ensures.count_value)) _ refl in
+    (offer_exit a.s.now a.plan.now a.run a.row.now a.variables.now a.given a.values.now c.if-run-le-MOST_OPENED.true _ c.from.ensures _ c.from-2.ensures _ c.place_of-place.ensures _ c.in_ok-admit.ensures refl _ _ c.if-given-eq0.false (c.exited.ensures.variables_after, c.exited.ensures.count_value)) _ refl in
     record { value = all.0; row_after = all.1 }

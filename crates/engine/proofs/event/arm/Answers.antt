@@ -13,7 +13,7 @@ loop-i-init c = (storing_start _ _ _ _, omega arith)
 
 pub overflow_add-evaluated : goal.overflow_add-evaluated
 overflow_add-evaluated c =
-    let small = asked_fits _ _ _ _ _ _ c.loop-i.invariant.1 c.loop-i-test.true _ c.broad.ensures.0 _ c.holds-held.ensures.1 in
+    let small = asked_fits _ _ _ _ _ _ c.loop-i.invariant.1 c.loop-i-test.true _ c.from.ensures _ c.holds-held.ensures.1 in
     search (rules, small)
 
 pub loop-i-preserved : goal.loop-i-preserved
@@ -23,13 +23,13 @@ loop-i-preserved c =
     let (g, counted) = c.loop-i.invariant in
     let i = c.loop-i.i in
     let h = c.loop-i-test.true in
-    let e = c.broad.ensures.0 in
+    let e = c.from.ensures in
     let (held, much) = c.holds-held.ensures in
-    let next = c.broad-in-loop-i.ensures.0 in
+    let next = c.from-in-loop-i.ensures in
     let all = asked_next a.s.now a.plan.now E _ i _ counted h _ e _ much _ next in
     elim c.if-held.branch [
       | then-held w ↦ let t = armed_here a.s.now a.plan.now E i h _ e _ held _ next w.if-held.true in
-          elim w.if-count-lt-MOST_ARMED.branch [ then-count-lt-MOST_ARMED v ↦ rw (w.row-is, w.count-is, w.to-is, v.row-is, v.to-is) (storing_store _ _ _ _ _ _ _ _ g _ _ t _ _ v.long.ensures.0 v.if-count-lt-MOST_ARMED.true, all) | else-count-lt-MOST_ARMED v ↦ rw (w.row-is, w.count-is, w.to-is, v.row-is, v.to-is) (storing_past _ _ _ _ _ _ _ _ g _ _ t _ v.if-count-lt-MOST_ARMED.false, all) ]
+          elim w.if-count-lt-MOST_ARMED.branch [ then-count-lt-MOST_ARMED v ↦ rw (w.row-is, w.count-is, w.to-is, v.row-is, v.to-is) (storing_store _ _ _ _ _ _ _ _ g _ _ t _ _ v.from-then-count-lt-MOST_ARMED.ensures v.if-count-lt-MOST_ARMED.true, all) | else-count-lt-MOST_ARMED v ↦ rw (w.row-is, w.count-is, w.to-is, v.row-is, v.to-is) (storing_past _ _ _ _ _ _ _ _ g _ _ t _ v.if-count-lt-MOST_ARMED.false, all) ]
       | else-held w ↦ rw (w.row-is, w.count-is, w.to-is) (storing_leave _ _ _ _ _ _ _ _ g _ (armed_behind a.s.now a.plan.now E i h _ e _ held _ next w.if-held.false) _, all)
     ]
 

@@ -12,7 +12,7 @@ pub overflow_add-run : goal.overflow_add-run
 overflow_add-run c = search (rules, c.requires.1)
 
 pub arm-asked-requires : goal.arm-asked-requires
-arm-asked-requires c = (c.candidate-first.ensures.1, omega (arith, c.wide-at.ensures.0, c.requires.0))
+arm-asked-requires c = (c.candidate-first.ensures.1, omega (arith, c.from-at.ensures, c.requires.0))
 
 pub overflow_add-run-2 : goal.overflow_add-run-2
 overflow_add-run-2 c = search (rules, c.requires.0)
@@ -34,5 +34,5 @@ overflow_add-result-2 c =
 pub returns : goal.returns
 returns c =
     let a = c.args in
-    let all = entered_there a.s.now a.plan.now a.run a.row.now a.variables.now a.values.now _ c.broad.ensures.0 _ c.front-program.ensures _ c.broad-2.ensures.0 _ c.front-monitor.ensures a.given.unit _ c.cell_of-cell.ensures.0 _ _ _ c.broad-3.ensures.0 _ _ c.find-found.ensures _ c.moved-to.ensures a.given refl _ c.wide-at.ensures.0 _ c.candidate-first.ensures.0 _ c.put.ensures _ _ (c.arm-asked.ensures.value, c.arm-asked.ensures.row_after) _ c.after.ensures in
+    let all = entered_there a.s.now a.plan.now a.run a.row.now a.variables.now a.values.now _ c.from.ensures _ c.front-program.ensures _ c.from-2.ensures _ c.front-monitor.ensures a.given.unit _ c.cell_of-cell.ensures.0 _ _ _ c.from-3.ensures _ _ c.find-found.ensures _ c.moved-to.ensures a.given refl _ c.from-at.ensures _ c.candidate-first.ensures.0 _ c.put.ensures _ _ (c.arm-asked.ensures.value, c.arm-asked.ensures.row_after) _ c.after.ensures in
     record { variables_after = all.0; count_value = all.1 }

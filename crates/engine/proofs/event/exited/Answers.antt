@@ -28,5 +28,5 @@ overflow_add-result-2 c =
 pub returns : goal.returns
 returns c =
     let a = c.args in
-    let all = exited_there a.s.now a.plan.now a.run a.row.now a.variables.now a.values.now _ c.broad.ensures.0 _ c.front-program.ensures _ c.broad-2.ensures.0 _ c.front-monitor.ensures a.leaving.unit _ c.cell_of-cell.ensures.0 _ _ _ c.broad-3.ensures.0 _ _ c.find-found.ensures _ c.moved-to.ensures a.leaving.place _ _ c.lowest_failing-low.ensures _ c.wide.ensures.0 _ c.close.ensures _ c.after.ensures in
+    let all = exited_there a.s.now a.plan.now a.run a.row.now a.variables.now a.values.now _ c.from.ensures _ c.front-program.ensures _ c.from-2.ensures _ c.front-monitor.ensures a.leaving.unit _ c.cell_of-cell.ensures.0 _ _ _ c.from-4.ensures _ _ c.find-found.ensures _ c.moved-to.ensures a.leaving.place _ _ c.lowest_failing-low.ensures _ c.from-3.ensures _ c.close.ensures _ c.after.ensures in
     record { variables_after = all.0; count_value = all.1 }

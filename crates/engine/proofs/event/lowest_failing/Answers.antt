@@ -30,4 +30,4 @@ loop-i-preserved c =
     elim c.if-held.branch [ then-held w ↦ rw w.number-is (judging_holds _ _ _ _ _ _ _ _ _ _ _ g h few room _ c.post.ensures _ _ c.holds-held.ensures w.if-held.true) | else-held w ↦ rw w.number-is (judging_fails _ _ _ _ _ _ _ _ _ _ _ g h few room _ c.post.ensures _ _ c.holds-held.ensures w.if-held.false _ w.lesser-number.ensures) ]
 
 pub returns : goal.returns
-returns c = judging_end _ _ _ _ _ _ _ _ _ _ _ c.loop-i.invariant c.loop-i-test.false c.four-count.ensures.0 _ c.broad.ensures.0 c.front-kept.ensures
+returns c = judging_end _ _ _ _ _ _ _ _ _ _ _ c.loop-i.invariant c.loop-i-test.false c.four-count.ensures.0 _ c.from.ensures c.front-kept.ensures

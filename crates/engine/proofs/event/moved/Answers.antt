@@ -8,12 +8,12 @@ pub returns-after-at-eq0 : goal.returns-after-at-eq0
 returns-after-at-eq0 c =
     let a = c.args in
     let h = c.if-t-lt96.true in
-    let e = c.broad-at.ensures.0 in
+    let e = c.from-at.ensures in
     let main = leads a.s.now a.plan.now a.t a.main a.values.now a.variables.now h in
     elim c.if-at-eq0.branch [
       | then-at-eq0 w ↦ let r = no_action a.s.now a.plan.now a.t a.main a.values.now a.variables.now h _ e w.if-at-eq0.true in
           (main, w.variables-is ∙ r.0, w.count-is ∙ r.1)
-      | else-at-eq0 w ↦ let r = action_taken a.s.now a.plan.now a.t a.main a.values.now a.variables.now h _ e w.if-at-eq0.false _ w.broad.ensures.0 _ w.front-program.ensures _ w.broad-else-at-eq0.ensures.0 _ _ w.perform_at-count.ensures in
+      | else-at-eq0 w ↦ let r = action_taken a.s.now a.plan.now a.t a.main a.values.now a.variables.now h _ e w.if-at-eq0.false _ w.from.ensures _ w.front-program.ensures _ w.from-else-at-eq0.ensures _ _ w.perform_at-count.ensures in
           (main, w.variables-is ∙ r.0, w.count-is ∙ r.1)
     ]
 

@@ -3,7 +3,7 @@ use borrow.Author.Tests.{lt-ltb, le-ltb}
 use Rattle.engine.proofs.event.post.Goals as goal
 
 pub returns-then-i-lt32 : goal.returns-then-i-lt32
-returns-then-i-lt32 c = rw (← c.place-i.ensures.0, lt-ltb c.place-i.result 32 c.if-i-lt32.true) c.broad.ensures.0
+returns-then-i-lt32 c = rw (lt-ltb c.args.n 32 c.if-i-lt32.true) c.from.ensures
 
 pub returns-else-i-lt32 : goal.returns-else-i-lt32
-returns-else-i-lt32 c = rw (← c.place-i.ensures.0, le-ltb c.place-i.result 32 c.if-i-lt32.false)
+returns-else-i-lt32 c = rw (le-ltb c.args.n 32 c.if-i-lt32.false)

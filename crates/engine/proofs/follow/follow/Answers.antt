@@ -13,13 +13,13 @@ pub loop-at-init : goal.loop-at-init
 loop-at-init c =
     let a = c.args in
     let p = c.requires in
-    let there = c.place-end.ensures.0 ∙ c.word_at.ensures in
+    let there = c.word_at-end.ensures in
     record {
-      following = follow_start (works a.s.now a.plan.now) a.programs a.log.now p.0 _ (started_words a.s.now _ c.started-run.ensures _ c.initial-variables.ensures) _ there c.place-end.ensures.1;
-      many = c.wide-count.ensures.0;
-      each = ap record_size c.wide-count.ensures.0;
+      following = follow_start (works a.s.now a.plan.now) a.programs a.log.now p.0 _ (started_words a.s.now _ c.started-run.ensures _ c.initial-variables.ensures) _ there (search rules);
+      many = c.from-count.ensures;
+      each = ap record_size c.from-count.ensures;
       whole = there ∙ log_length a.programs a.log.now p.0;
-      few = omega (arith, c.wide-count.ensures.0, p.1);
+      few = omega (arith, c.from-count.ensures, p.1);
       clear = clear_start _;
     }
 
@@ -52,13 +52,13 @@ returns-in-Err c =
 pub overflow_add-total : goal.overflow_add-total
 overflow_add-total c =
     let a = c.args in
-    let small = sum_fits a.s.now a.plan.now a.programs a.log.now _ _ _ _ _ _ _ _ _ _ c.loop-at.invariant c.loop-at-test.true _ c.given_at-given.ensures _ c.read_values.ensures _ c.in-Ok.ensures.value refl _ c.double-total.ensures in
+    let small = sum_fits a.s.now a.plan.now a.programs a.log.now _ _ _ _ _ _ _ _ _ _ c.loop-at.invariant c.loop-at-test.true _ c.given_at-given.ensures _ c.read_values.ensures _ c.in-Ok.ensures.value refl _ c.from-total.ensures in
     search (rules, small)
 
 pub returns-in-Some : goal.returns-in-Some
 returns-in-Some c =
     let a = c.args in
-    rw c.counted-in-Some.ensures (let all = ends_violated a.s.now a.plan.now a.programs a.log.now _ _ _ _ _ _ _ _ _ _ c.loop-at.invariant c.loop-at-test.true _ c.given_at-given.ensures _ c.read_values.ensures _ c.in-Ok.ensures.value refl _ c.double-total.ensures _ c.in-Some.is in
+    rw c.counted-in-Some.ensures (let all = ends_violated a.s.now a.plan.now a.programs a.log.now _ _ _ _ _ _ _ _ _ _ c.loop-at.invariant c.loop-at-test.true _ c.given_at-given.ensures _ c.read_values.ensures _ c.in-Ok.ensures.value refl _ c.from-total.ensures _ c.in-Some.is in
     record { answer_value = all.0; count_value = all.1 })
 
 pub overflow_add-at-in-loop-at : goal.overflow_add-at-in-loop-at
@@ -66,7 +66,7 @@ overflow_add-at-in-loop-at c =
     let a = c.args in
     let g = c.loop-at.invariant in
     let room = follow_room (works a.s.now a.plan.now) a.programs a.log.now _ _ _ _ _ g.following c.loop-at-test.true in
-    let small : c.loop-at.at + (4 + 4 * c.wide-count.result) < 4294967296 = omega (arith, room, g.each, g.following.fits) in
+    let small : c.loop-at.at + (4 + 4 * c.from-count.result) < 4294967296 = omega (arith, room, g.each, g.following.fits) in
     search (rules, small)
 
 pub loop-at-smaller : goal.loop-at-smaller
@@ -79,7 +79,7 @@ loop-at-smaller c =
 pub loop-at-preserved : goal.loop-at-preserved
 loop-at-preserved c =
     let a = c.args in
-    goes_on a.s.now a.plan.now a.programs a.log.now _ _ _ _ _ _ _ _ _ _ c.loop-at.invariant c.loop-at-test.true _ c.given_at-given.ensures _ c.read_values.ensures _ c.in-Ok.ensures.value refl _ c.double-total.ensures (search rules) _ _ c.in-Ok.ensures.row_after
+    goes_on a.s.now a.plan.now a.programs a.log.now _ _ _ _ _ _ _ _ _ _ c.loop-at.invariant c.loop-at-test.true _ c.given_at-given.ensures _ c.read_values.ensures _ c.in-Ok.ensures.value refl _ c.from-total.ensures (search rules) _ _ c.in-Ok.ensures.row_after
 
 pub returns : goal.returns
 returns c =

@@ -11,15 +11,15 @@ returns-then-i-lt-CALLS c =
     let a = c.args in
     let eight : length a.call.kept ≡ 8 = search rules in
     let four : length a.arms.numbers ≡ 4 = search rules in
-    let number = c.long-number.ensures in
-    let unit = c.word-unit.ensures in
-    (put_there a.row.now a.i a.call a.arms c.if-i-lt-CALLS.true _ _ _ _ _ _ _ number.0 unit.0 c.word.ensures.0 c.word-then-i-lt-CALLS.ensures.0 c.word-then-i-lt-CALLS-2.ensures.0 c.word-then-i-lt-CALLS-3.ensures.0 c.word-then-i-lt-CALLS-4.ensures.0 four eight, omega (arith, number), omega (arith, unit), eight, four)
+    let number = c.from-number.ensures in
+    let unit = c.from-unit.ensures in
+    (put_there a.row.now a.i a.call a.arms c.if-i-lt-CALLS.true _ _ _ _ _ _ _ number unit c.from.ensures c.from-then-i-lt-CALLS.ensures c.from-then-i-lt-CALLS-2.ensures c.from-then-i-lt-CALLS-3.ensures c.from-then-i-lt-CALLS-4.ensures four eight, search rules, search rules, eight, four)
 
 pub returns-else-i-lt-CALLS : goal.returns-else-i-lt-CALLS
 returns-else-i-lt-CALLS c =
     let a = c.args in
     let eight : length a.call.kept ≡ 8 = search rules in
     let four : length a.arms.numbers ≡ 4 = search rules in
-    let number = c.long-number.ensures in
-    let unit = c.word-unit.ensures in
-    (put_nothing a.row.now a.i a.call a.arms c.if-i-lt-CALLS.false, omega (arith, number), omega (arith, unit), eight, four)
+    let number = c.from-number.ensures in
+    let unit = c.from-unit.ensures in
+    (put_nothing a.row.now a.i a.call a.arms c.if-i-lt-CALLS.false, search rules, search rules, eight, four)

@@ -5,4 +5,4 @@ use Rattle.engine.proofs.plan.heads.Goals as goal
 pub returns : goal.returns
 returns c =
     let a = c.args in
-    head_words_lem a.plan.now a.h a.paired a.last _ _ _ c.short.ensures.0 c.short-2.ensures.0 c.short-3.ensures.0
+    head_words_lem a.plan.now a.h a.paired a.last _ _ _ c.from.ensures c.from-2.ensures c.from-3.ensures

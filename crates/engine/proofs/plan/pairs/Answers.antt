@@ -8,7 +8,7 @@ pub loop-left-init : goal.loop-left-init
 loop-left-init c = pairing_start _ _ _ _ _ _
 
 pub loop-left-preserved : goal.loop-left-preserved
-loop-left-preserved c = pairing_next _ _ _ _ _ _ _ _ _ _ c.loop-left.invariant c.loop-left-test.true _ c.pair_at-p.ensures _ c.text.ensures _ c.short.ensures.0 _ c.pick.ensures
+loop-left-preserved c = pairing_next _ _ _ _ _ _ _ _ _ _ c.loop-left.invariant c.loop-left-test.true _ c.pair_at-p.ensures _ c.text.ensures _ c.from.ensures _ c.pick.ensures
 
 pub returns : goal.returns
 returns c =

@@ -1,4 +1,5 @@
 -- `plan::size` meets its contract. Assumes nothing.
+use borrow.Author.Rules.{rules}
 use mathlib.Core.Path.{ap, ◌∙◌}
 use Prim.Native.Nat.{ℕ, ◌+◌, ◌*◌}
 use native.Mathlib.Omega.{arith}
@@ -8,4 +9,4 @@ use Rattle.engine.proofs.plan.size.Goals as goal
 pub returns-then-paired : goal.returns-then-paired
 returns-then-paired c =
     let a = c.args in
-    (rw c.if-paired.true (ap (λ (m : ℕ). 7 + 2 * m) (c.word.ensures.0 ∙ c.byte_at.ensures ∙ byte_past a.s.now a.at 6)), omega (arith, c.word.ensures.1))
+    (rw c.if-paired.true (ap (λ (m : ℕ). 7 + 2 * m) (c.from.ensures ∙ c.byte_at.ensures ∙ byte_past a.s.now a.at 6)), search rules)

@@ -9,4 +9,4 @@ pub returns : goal.returns
 returns c =
     let a = c.args in
     let long : length a.values.now ≡ 8 = search rules in
-    put_there a.row.now a.at _ _ c.long.ensures.0 _ _ c.word.ensures.0 a.entry a.values.now long
+    put_there a.row.now a.at _ _ c.from.ensures _ _ c.from-2.ensures a.entry a.values.now long
