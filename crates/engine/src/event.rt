@@ -154,13 +154,8 @@ fn find<'a>(
     let mut t = first;
     let mut count = 0;
     while t < 96 {
-        let held = holds(
-            s,
-            usize::from(plan[552 + 4 * t]),
-            program,
-            monitor,
-            &program[..0],
-        );
+        let guard = usize::from(plan[552 + 4 * t]);
+        let held = holds(s, guard, program, monitor, &program[..0]);
         count += held.count;
         if held.holds {
             return Found {
@@ -225,13 +220,8 @@ fn arm<'a>(
     let mut to = at + 3;
     let mut i = first;
     while i < 384 {
-        let held = holds(
-            s,
-            usize::from(plan[1192 + 3 * i]),
-            program,
-            monitor,
-            &program[..0],
-        );
+        let asked = usize::from(plan[1192 + 3 * i]);
+        let held = holds(s, asked, program, monitor, &program[..0]);
         evaluated += held.count;
         if held.holds {
             if count < MOST_ARMED {

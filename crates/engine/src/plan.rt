@@ -105,9 +105,7 @@ fn transitions(
     requires { (n ≤ 96) × (n ≤ length places.now) × (every (λ x. leb x 1000000) places.now ≡ true) }
     ensures { plan.new ≡ with_transitions paired s.now conditions.now actions.now (take n places.now) plan.old }
 {
-    let mut i = n;
-    while 0 < i {
-        i -= 1;
+    for i in (0..n).rev() {
         let at = places[i];
         transition(s, conditions, actions, i, at, plan);
         if paired {
@@ -145,11 +143,9 @@ fn pairs(s: &[u8], conditions: &[u32; 161], i: usize, at: u32, plan: &mut [u16; 
     ensures { plan.new ≡ with_pairs s.now conditions.now i at plan.old }
 {
     let n = at_most(sheet::byte_at(s, at + 6), 4);
-    let mut left = n;
     let mut from = at + 7;
     let mut to = 1192 + 12 * i;
-    while 0 < left {
-        left -= 1;
+    for left in (0..n).rev() {
         let p = sheet::pair_at(s, from);
         plan[to] = text(s, conditions, p.condition);
         plan[to + 1] = u16::from(p.template);
@@ -172,10 +168,8 @@ fn triples(s: &[u8], conditions: &[u32; 161], at: u32, n: usize, plan: &mut [u16
     requires { (n ≤ 32) × (at ≤ 100000000) }
     ensures { plan.new ≡ linked (with_triple s.now conditions.now) 0 (starts triple_form n s.now at) plan.old }
 {
-    let mut i = n;
     let mut here = at + 4 * (n as u32);
-    while 0 < i {
-        i -= 1;
+    for i in (0..n).rev() {
         here -= 4;
         triple(s, conditions, i, here, plan);
     }

@@ -15,15 +15,12 @@ pub(crate) fn place_of(row: &[u32; 256], opened: usize, number: u32) -> usize
     requires { opened ≤ most_calls }
     ensures { result ≡ place_in number opened row.now }
 {
-    let end = 16 * opened;
-    let mut at = 0;
-    while at < end {
-        if row[at] == number {
-            return at;
+    for i in 0..opened {
+        if row[16 * i] == number {
+            return 16 * i;
         }
-        at += 16;
     }
-    at
+    16 * opened
 }
 
 // Whether an event is taken, with the place of its number: the lowest of refusals 10 to 15 where not.

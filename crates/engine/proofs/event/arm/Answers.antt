@@ -13,7 +13,7 @@ loop-i-init c = (storing_start _ _ _ _, omega arith)
 
 pub overflow_add-evaluated : goal.overflow_add-evaluated
 overflow_add-evaluated c =
-    let small = asked_fits _ _ _ _ _ _ c.loop-i.invariant.1 c.loop-i-test.true _ c.from.ensures _ c.holds-held.ensures.1 in
+    let small = asked_fits _ _ _ _ _ _ c.loop-i.invariant.1 c.loop-i-test.true _ c.from-asked.ensures _ c.holds-held.ensures.1 in
     search (rules, small)
 
 pub loop-i-preserved : goal.loop-i-preserved
@@ -23,7 +23,7 @@ loop-i-preserved c =
     let (g, counted) = c.loop-i.invariant in
     let i = c.loop-i.i in
     let h = c.loop-i-test.true in
-    let e = c.from.ensures in
+    let e = c.from-asked.ensures in
     let (held, much) = c.holds-held.ensures in
     let next = c.from-in-loop-i.ensures in
     let all = asked_next a.s.now a.plan.now E _ i _ counted h _ e _ much _ next in

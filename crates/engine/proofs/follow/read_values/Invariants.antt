@@ -5,6 +5,3 @@ use Rattle.engine.proofs.follow.read_values.Given as goal
 
 abbrev pub invariant-loop-i : goal.invariant-loop-i
 invariant-loop-i l = Filling l.n l.log l.at l.initial.values l.values l.i l.here
-
-abbrev pub decreases-loop-i : goal.decreases-loop-i
-decreases-loop-i l = l.n - l.i

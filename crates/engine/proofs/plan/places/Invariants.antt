@@ -5,6 +5,3 @@ use Rattle.engine.proofs.plan.places.Given as goal
 
 abbrev pub invariant-loop-i : goal.invariant-loop-i
 invariant-loop-i l = Placing l.paired l.n l.s l.at l.out l.i l.here
-
-abbrev pub decreases-loop-i : goal.decreases-loop-i
-decreases-loop-i l = l.n - l.i

@@ -5,6 +5,3 @@ use Rattle.engine.proofs.plan.posts.Given as goal
 
 abbrev pub invariant-loop-i : goal.invariant-loop-i
 invariant-loop-i l = Posting l.s l.conditions l.size l.n l.at l.initial.plan l.plan l.i l.here
-
-abbrev pub decreases-loop-i : goal.decreases-loop-i
-decreases-loop-i l = l.n - l.i

@@ -5,6 +5,3 @@ use Rattle.engine.proofs.plan.transitions.Given as goal
 
 abbrev pub invariant-loop-i : goal.invariant-loop-i
 invariant-loop-i l = Linking (turn_of l.s l.conditions l.actions l.paired) (take l.n l.places) l.initial.plan l.plan l.i
-
-abbrev pub decreases-loop-i : goal.decreases-loop-i
-decreases-loop-i l = l.i

@@ -4,6 +4,3 @@ use Rattle.engine.proofs.plan.triples.Given as goal
 
 abbrev pub invariant-loop-i : goal.invariant-loop-i
 invariant-loop-i l = Tripling l.s l.conditions l.at l.n l.initial.plan l.plan l.i l.here
-
-abbrev pub decreases-loop-i : goal.decreases-loop-i
-decreases-loop-i l = l.i

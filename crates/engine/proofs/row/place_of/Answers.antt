@@ -1,15 +1,23 @@
 -- `row::place_of` meets its contract. Assumes nothing.
-use Rattle.engine.proofs.InWords.Rowing.{looking_start, looking_end, looking_found, looking_more}
+use mathlib.Core.Path.{◌≡◌, subst, ◌∙◌}
+use Prim.Native.Nat.{ℕ, ◌+◌, ◌*◌}
+use native.Mathlib.Omega.{arith}
+use Rattle.engine.proofs.InWords.Rowing.{Looking, looking_start, looking_end, looking_found, looking_more}
 use Rattle.engine.proofs.row.place_of.Goals as goal
 
-pub loop-at-init : goal.loop-at-init
-loop-at-init c = looking_start _ _ _
+pub loop-i-init : goal.loop-i-init
+loop-i-init c = looking_start _ _ _
 
-pub returns-then-row-at : goal.returns-then-row-at
-returns-then-row-at c = looking_found _ _ _ _ c.loop-at.invariant c.loop-at-test.true c.if-row-at.true
+pub returns-then-row-i : goal.returns-then-row-i
+returns-then-row-i c = looking_found _ _ _ _ c.loop-i.invariant (omega (arith, c.loop-i-test.true)) c.if-row-i.true
 
-pub loop-at-preserved : goal.loop-at-preserved
-loop-at-preserved c = looking_more _ _ _ _ c.loop-at.invariant c.loop-at-test.true c.if-row-at.false
+pub loop-i-preserved : goal.loop-i-preserved
+loop-i-preserved c =
+    let a = c.args in
+    let e : 16 * c.loop-i.i + 16 ≡ 16 * (c.loop-i.i + 1) = omega arith in
+    subst (λ (k : ℕ). Looking a.number a.opened a.row.now k) e (looking_more _ _ _ _ c.loop-i.invariant (omega (arith, c.loop-i-test.true)) c.if-row-i.false)
 
 pub returns : goal.returns
-returns c = looking_end _ _ _ _ c.loop-at.invariant c.loop-at-test.false
+returns c =
+    let last : 16 * c.args.opened ≡ 16 * c.loop-i.i = omega (arith, c.loop-i-test.false, c.loop-i.auto.i-end) in
+    last ∙ looking_end _ _ _ _ c.loop-i.invariant (omega (arith, c.loop-i-test.false))
