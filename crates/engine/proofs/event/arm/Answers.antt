@@ -25,11 +25,11 @@ loop-i-preserved c =
     let h = c.loop-i-test.true in
     let e = c.from-asked.ensures in
     let (held, much) = c.holds-held.ensures in
-    let next = c.from-in-loop-i.ensures in
+    let next = c.from.ensures in
     let all = asked_next a.s.now a.plan.now E _ i _ counted h _ e _ much _ next in
     elim c.if-held.branch [
       | then-held w ↦ let t = armed_here a.s.now a.plan.now E i h _ e _ held _ next w.if-held.true in
-          elim w.if-count-lt-MOST_ARMED.branch [ then-count-lt-MOST_ARMED v ↦ rw (w.row-is, w.count-is, w.to-is, v.row-is, v.to-is) (storing_store _ _ _ _ _ _ _ _ g _ _ t _ _ v.from-then-count-lt-MOST_ARMED.ensures v.if-count-lt-MOST_ARMED.true, all) | else-count-lt-MOST_ARMED v ↦ rw (w.row-is, w.count-is, w.to-is, v.row-is, v.to-is) (storing_past _ _ _ _ _ _ _ _ g _ _ t _ v.if-count-lt-MOST_ARMED.false, all) ]
+          elim w.if-count-lt-MOST_ARMED.branch [ then-count-lt-MOST_ARMED v ↦ rw (w.row-is, w.count-is, w.to-is, v.row-is, v.to-is) (storing_store _ _ _ _ _ _ _ _ g _ _ t _ _ v.from.ensures v.if-count-lt-MOST_ARMED.true, all) | else-count-lt-MOST_ARMED v ↦ rw (w.row-is, w.count-is, w.to-is, v.row-is, v.to-is) (storing_past _ _ _ _ _ _ _ _ g _ _ t _ v.if-count-lt-MOST_ARMED.false, all) ]
       | else-held w ↦ rw (w.row-is, w.count-is, w.to-is) (storing_leave _ _ _ _ _ _ _ _ g _ (armed_behind a.s.now a.plan.now E i h _ e _ held _ next w.if-held.false) _, all)
     ]
 

@@ -15,7 +15,7 @@ pub returns-then-held : goal.returns-then-held
 returns-then-held c = seeking_found _ _ _ _ _ _ c.loop-t.invariant c.loop-t-test.true _ c.from-guard.ensures _ _ c.holds-held.ensures c.if-held.true
 
 pub loop-t-preserved : goal.loop-t-preserved
-loop-t-preserved c = seeking_next _ _ _ _ _ _ c.loop-t.invariant c.loop-t-test.true _ c.from-guard.ensures _ _ c.holds-held.ensures c.if-held.false _ c.from-in-loop-t.ensures
+loop-t-preserved c = seeking_next _ _ _ _ _ _ c.loop-t.invariant c.loop-t-test.true _ c.from-guard.ensures _ _ c.holds-held.ensures c.if-held.false _ c.from.ensures
 
 pub returns : goal.returns
 returns c = seeking_end _ _ _ _ _ _ c.loop-t.invariant c.loop-t-test.false
