@@ -20,6 +20,7 @@ mod read;
 mod records;
 mod roles;
 mod spread;
+mod table;
 mod walk;
 
 // What reading a sheet or a network answers.

@@ -8,6 +8,7 @@ ghost use Rattle.sheet.specs.Walk.{paired_ranged};
 
 use crate::bytes::{byte, number, wide};
 use crate::records::{pair, template, transition, triple};
+use crate::table::{PairedTransitions, Pairs, Templates, Transitions, Triples, every};
 use crate::{Counts, Pair, Template, Transition, Triple};
 
 fn transition_ranged(t: Transition, n: Counts) -> bool
@@ -48,15 +49,13 @@ pub(crate) fn transitions_ranged(s: &[u8], at: usize, n: usize, counts: Counts) 
     requires { (at ≤ 100000000) × (n ≤ 255) }
     ensures { result ≡ every (transition_ranged counts) (table transition_form n s.now at) }
 {
-    let mut ok = true;
-    let mut place = at;
-    let mut left = n;
-    while 0 < left {
-        ok = ok & transition_ranged(transition(s, place), counts);
-        place = place + 6;
-        left -= 1;
-    }
-    ok
+    every(
+        Transitions,
+        s,
+        at,
+        n,
+        |place| transition_ranged(transition(s, place), counts),
+    )
 }
 
 // The same of triples.
@@ -64,15 +63,13 @@ pub(crate) fn triples_ranged(s: &[u8], at: usize, n: usize, counts: Counts) -> b
     requires { (at ≤ 100000000) × (n ≤ 255) }
     ensures { result ≡ every (triple_ranged counts) (table triple_form n s.now at) }
 {
-    let mut ok = true;
-    let mut place = at;
-    let mut left = n;
-    while 0 < left {
-        ok = ok & triple_ranged(triple(s, place), counts);
-        place = place + 4;
-        left -= 1;
-    }
-    ok
+    every(
+        Triples,
+        s,
+        at,
+        n,
+        |place| triple_ranged(triple(s, place), counts),
+    )
 }
 
 // The same of templates.
@@ -80,15 +77,13 @@ pub(crate) fn templates_ranged(s: &[u8], at: usize, n: usize, counts: Counts) ->
     requires { (at ≤ 100000000) × (n ≤ 255) }
     ensures { result ≡ every (template_ranged counts) (table template_form n s.now at) }
 {
-    let mut ok = true;
-    let mut place = at;
-    let mut left = n;
-    while 0 < left {
-        ok = ok & template_ranged(template(s, place), counts);
-        place = place + 2;
-        left -= 1;
-    }
-    ok
+    every(
+        Templates,
+        s,
+        at,
+        n,
+        |place| template_ranged(template(s, place), counts),
+    )
 }
 
 // The same of the pairs of a transition.
@@ -104,15 +99,13 @@ pub(crate) fn pairs_ranged(
     requires { (at ≤ 200000000) × (n ≤ 255) × (last ≤ 100000000) }
     ensures { result ≡ every (pair_ranged counts (table template_form templates s.now last) t) (table pair_form n s.now at) }
 {
-    let mut ok = true;
-    let mut place = at;
-    let mut left = n;
-    while 0 < left {
-        ok = ok & pair_ranged(s, pair(s, place), t, counts, last, templates);
-        place = place + 2;
-        left -= 1;
-    }
-    ok
+    every(
+        Pairs,
+        s,
+        at,
+        n,
+        |place| pair_ranged(s, pair(s, place), t, counts, last, templates),
+    )
 }
 
 fn one_paired_ranged(s: &[u8], at: usize, counts: Counts, last: usize, templates: usize) -> bool
@@ -136,13 +129,11 @@ pub(crate) fn paired_ranged(
     requires { (at ≤ 100000000) × (n ≤ 255) × (last ≤ 100000000) }
     ensures { result ≡ every (paired_ranged counts (table template_form templates s.now last)) (table paired_form n s.now at) }
 {
-    let mut ok = true;
-    let mut place = at;
-    let mut left = n;
-    while 0 < left {
-        ok = ok & one_paired_ranged(s, place, counts, last, templates);
-        place = place + (7 + 2 * number(s, place + 6));
-        left -= 1;
-    }
-    ok
+    every(
+        PairedTransitions,
+        s,
+        at,
+        n,
+        |place| one_paired_ranged(s, place, counts, last, templates),
+    )
 }

@@ -8,6 +8,7 @@ ghost use Rattle.sheet.specs.Walk.{names_at, guard_suits, triple_suits, pair_sui
 
 use crate::bytes::{number, place, wide};
 use crate::records::{condition_text, pair, template, transition, triple};
+use crate::table::{PairedTransitions, Pairs, Templates, Transitions, Triples, every};
 use crate::{Pair, Template, Transition, Triple};
 use condition::Lent;
 
@@ -76,15 +77,13 @@ pub(crate) fn guards_suit(
     requires { (at ≤ 100000000) × (n ≤ 255) × (conditions ≤ 161) }
     ensures { result ≡ every (guard_suits s.now index.now conditions lent) (table transition_form n s.now at) }
 {
-    let mut ok = true;
-    let mut here = at;
-    let mut left = n;
-    while 0 < left {
-        ok = ok & guard_suits(s, index, conditions, lent, transition(s, here));
-        here = here + 6;
-        left -= 1;
-    }
-    ok
+    every(
+        Transitions,
+        s,
+        at,
+        n,
+        |place| guard_suits(s, index, conditions, lent, transition(s, place)),
+    )
 }
 
 // The same of both conditions of triples.
@@ -99,15 +98,13 @@ pub(crate) fn triples_suit(
     requires { (at ≤ 100000000) × (n ≤ 255) × (conditions ≤ 161) }
     ensures { result ≡ every (triple_suits s.now index.now conditions lent) (table triple_form n s.now at) }
 {
-    let mut ok = true;
-    let mut here = at;
-    let mut left = n;
-    while 0 < left {
-        ok = ok & triple_suits(s, index, conditions, lent, triple(s, here));
-        here = here + 4;
-        left -= 1;
-    }
-    ok
+    every(
+        Triples,
+        s,
+        at,
+        n,
+        |place| triple_suits(s, index, conditions, lent, triple(s, place)),
+    )
 }
 
 // The same of the postconditions of templates.
@@ -122,15 +119,13 @@ pub(crate) fn templates_suit(
     requires { (at ≤ 100000000) × (n ≤ 255) × (conditions ≤ 161) }
     ensures { result ≡ every (template_suits s.now index.now conditions lent) (table template_form n s.now at) }
 {
-    let mut ok = true;
-    let mut here = at;
-    let mut left = n;
-    while 0 < left {
-        ok = ok & template_suits(s, index, conditions, lent, template(s, here));
-        here = here + 2;
-        left -= 1;
-    }
-    ok
+    every(
+        Templates,
+        s,
+        at,
+        n,
+        |place| template_suits(s, index, conditions, lent, template(s, place)),
+    )
 }
 
 // The same of the conditions of pairs.
@@ -145,15 +140,13 @@ pub(crate) fn pairs_suit(
     requires { (at ≤ 200000000) × (n ≤ 255) × (conditions ≤ 161) }
     ensures { result ≡ every (pair_suits s.now index.now conditions lent) (table pair_form n s.now at) }
 {
-    let mut ok = true;
-    let mut here = at;
-    let mut left = n;
-    while 0 < left {
-        ok = ok & pair_suits(s, index, conditions, lent, pair(s, here));
-        here = here + 2;
-        left -= 1;
-    }
-    ok
+    every(
+        Pairs,
+        s,
+        at,
+        n,
+        |place| pair_suits(s, index, conditions, lent, pair(s, place)),
+    )
 }
 
 fn one_paired_suits(s: &[u8], at: usize, index: &[u32; 161], conditions: usize, lent: Lent) -> bool
@@ -178,13 +171,11 @@ pub(crate) fn paired_suit(
     requires { (at ≤ 100000000) × (n ≤ 255) × (conditions ≤ 161) }
     ensures { result ≡ every (paired_suits s.now index.now conditions lent) (table paired_form n s.now at) }
 {
-    let mut ok = true;
-    let mut here = at;
-    let mut left = n;
-    while 0 < left {
-        ok = ok & one_paired_suits(s, here, index, conditions, lent);
-        here = here + (7 + 2 * number(s, here + 6));
-        left -= 1;
-    }
-    ok
+    every(
+        PairedTransitions,
+        s,
+        at,
+        n,
+        |place| one_paired_suits(s, place, index, conditions, lent),
+    )
 }

@@ -1,6 +1,6 @@
 -- A loop that goes through a table from a place on and tests each record. Assumes nothing.
 use mathlib.Core.Path.{◌≡◌, refl, sym, ap, ◌∙◌}
-use mathlib.Core.Bool.{Bool, true, ◌&&◌}
+use mathlib.Core.Bool.{Bool, true, false, ◌&&◌}
 use mathlib.Core.List.{List}
 use Prim.Native.Nat.{ℕ, zero, suc, ◌+◌, ◌-◌, ◌*◌, ◌≤◌, ◌<◌}
 use native.Mathlib.Nat.{mul-suc, add-zero}
@@ -9,8 +9,8 @@ use native.Mathlib.Omega.{arith}
 use lib.ListN.{get_or, drop}
 use lib.Seq.{get_or-drop}
 use Rattle.sheet.specs.Bytes.{byte}
-use Rattle.sheet.specs.Table.{Form, table, after, every}
-use Rattle.sheet.proofs.Tables.{after_step, after_none, every_turn, every_none}
+use Rattle.sheet.specs.Table.{Form, records, table, after, every}
+use Rattle.sheet.proofs.Tables.{table_step, after_step, after_none, every_turn, every_none}
 
 -- With `left` records to go from `place` on: the answer is that of the whole table, it ends where the whole ends, and the place has gone
 -- on by at most `most` bytes a record.
@@ -56,3 +56,23 @@ module _ {A : Type 0} (p : A → Bool) (F : Form A) (most n : ℕ) (s : List ℕ
   -- a record whose size is given by a byte of it, and one of a fixed size
   pub sized_next : (size : ℕ) → size ≡ F.size (drop place s) → size ≤ most → Going p F most n s at (ok && b) (place + size) (left - 1)
   sized_next size f h = going_next p F most n s at ok place left g z (ok && b) (place + size) (ap (λ (c : Bool). ok && c) e) (ap (λ (m : ℕ). place + m) f) (rw f at h)
+
+-- A loop that stops at the first record that fails p, with the records from number i on still to test, of which the first begins at `place`.
+module _ {A : Type 0} (p : A → Bool) (F : Form A) (n i : ℕ) (s : List ℕ) (at place : ℕ) (e : every p (table F (n - i) s place) ≡ every p (table F n s at)) where
+  pub every_fails : i < n → false ≡ p (F.value (drop place s)) → false ≡ every p (table F n s at)
+  unfolding every
+  every_fails h f =
+      let m : n - i ≡ suc (n - (i + 1)) = omega arith in
+      rw (m, table_step, ← f) at e
+
+  pub every_goes : i < n → true ≡ p (F.value (drop place s)) → (k : ℕ) → k ≡ F.size (drop place s) → every p (table F (n - (i + 1)) s (place + k)) ≡ every p (table F n s at)
+  unfolding every
+  every_goes h f k z =
+      let m : n - i ≡ suc (n - (i + 1)) = omega arith in
+      rw z (rw (m, table_step, ← f) at e)
+
+  pub every_ends : n ≤ i → true ≡ every p (table F n s at)
+  unfolding every records
+  every_ends h =
+      let m : n - i ≡ 0 = omega arith in
+      rw m at e
