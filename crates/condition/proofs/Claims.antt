@@ -1,11 +1,10 @@
 -- Answers are told by their paper's words, parsing and bytes undo each other, and no more is counted than there are bytes. Assumes
 -- nothing.
-use Rattle.std.proofs.Common.{◌≡◌, ℕ, ◌-◌, ◌^◌, ◌<◌, Bool, true, false, cond, ltb, pos, negsuc, sym, refl, ap, ◌∙◌, arith}
+use Rattle.std.proofs.Common.{◌≡◌, ℕ, ◌-◌, ◌^◌, ◌<◌, Bool, true, false, cond, ltb, pos, negsuc, Result, Ok, Err, sym, refl, ap, ◌∙◌, arith}
 use Rattle.condition.specs.declared.Lent.{Lent}
-use Rattle.condition.specs.declared.ConditionAnswer.TheVariants as condition
-use Rattle.condition.specs.declared.ValueAnswer.{ValueAnswer}
-use Rattle.condition.specs.declared.ValueAnswer.TheVariants as value
-use Rattle.condition.specs.declared.ActionAnswer.TheVariants as action
+use Rattle.refusal.specs.declared.Refusal.{Refusal}
+use Rattle.refusal.specs.Numbers.{number_of}
+use Rattle.refusal.proofs.Numbers.{number_one}
 use Rattle.condition.specs.Word.{signed, unsigned}
 use Rattle.condition.specs.Answer.{condition_paper, value_paper, action_paper}
 use Rattle.condition.specs.Claims.{Injective, IsWord, Told, RoundTrip, FewCounted}
@@ -22,24 +21,24 @@ unsigned_signed w h = go (ltb w (2 ^ 31)) refl
     go false e = omega arith
 
 told_condition : Injective condition_paper
-told_condition (condition.Is a) (condition.Is b) e = let x : a ≡ b = cc in ap condition.Is x
-told_condition (condition.Is a) (condition.Refused m) e = let z : ◌≡◌ {A = ℕ} 0 1 = cc in absurd (omega arith)
-told_condition (condition.Refused n) (condition.Is b) e = let z : ◌≡◌ {A = ℕ} 0 1 = cc in absurd (omega arith)
-told_condition (condition.Refused n) (condition.Refused m) e = let x : n ≡ m = cc in ap condition.Refused x
+told_condition (Ok a) (Ok b) e = let x : a ≡ b = cc in ap Ok x
+told_condition (Ok a) (Err m) e = let z : ◌≡◌ {A = ℕ} 0 1 = cc in absurd (omega arith)
+told_condition (Err n) (Ok b) e = let z : ◌≡◌ {A = ℕ} 0 1 = cc in absurd (omega arith)
+told_condition (Err n) (Err m) e = let x : number_of n ≡ number_of m = cc in ap Err (number_one n m x)
 
-told_value : (a b : ValueAnswer) → IsWord a → IsWord b → value_paper a ≡ value_paper b → a ≡ b
-told_value (value.Is v) (value.Is w) h k e =
+told_value : (a b : Result ℕ Refusal) → IsWord a → IsWord b → value_paper a ≡ value_paper b → a ≡ b
+told_value (Ok v) (Ok w) h k e =
     let x : signed v ≡ signed w = cc in
-    ap value.Is (sym (unsigned_signed v h) ∙ ap unsigned x ∙ unsigned_signed w k)
-told_value (value.Is v) (value.Refused m) h k e = let z : ◌≡◌ {A = ℕ} 0 1 = cc in absurd (omega arith)
-told_value (value.Refused n) (value.Is w) h k e = let z : ◌≡◌ {A = ℕ} 0 1 = cc in absurd (omega arith)
-told_value (value.Refused n) (value.Refused m) h k e = let x : n ≡ m = cc in ap value.Refused x
+    ap Ok (sym (unsigned_signed v h) ∙ ap unsigned x ∙ unsigned_signed w k)
+told_value (Ok v) (Err m) h k e = let z : ◌≡◌ {A = ℕ} 0 1 = cc in absurd (omega arith)
+told_value (Err n) (Ok w) h k e = let z : ◌≡◌ {A = ℕ} 0 1 = cc in absurd (omega arith)
+told_value (Err n) (Err m) h k e = let x : number_of n ≡ number_of m = cc in ap Err (number_one n m x)
 
 told_action : Injective action_paper
-told_action action.Done action.Done e = refl
-told_action action.Done (action.Refused m) e = let z : ◌≡◌ {A = ℕ} 0 1 = cc in absurd (omega arith)
-told_action (action.Refused n) action.Done e = let z : ◌≡◌ {A = ℕ} 0 1 = cc in absurd (omega arith)
-told_action (action.Refused n) (action.Refused m) e = let x : n ≡ m = cc in ap action.Refused x
+told_action (Ok a) (Ok b) e = refl
+told_action (Ok a) (Err m) e = let z : ◌≡◌ {A = ℕ} 0 1 = cc in absurd (omega arith)
+told_action (Err n) (Ok b) e = let z : ◌≡◌ {A = ℕ} 0 1 = cc in absurd (omega arith)
+told_action (Err n) (Err m) e = let x : number_of n ≡ number_of m = cc in ap Err (number_one n m x)
 
 pub told : Told
 told = record { conditions = told_condition; values = told_value; actions = told_action }

@@ -1,13 +1,9 @@
 -- The answers of the crate's operations (document 01, "What each operation turns away").
-use Rattle.std.specs.Prelude.{ℕ, ◌+◌, Bool, false, cond, ◌&&◌, List, ◌++◌, length, take, drop, ℤ, nat_le, slice_index}
+use Rattle.std.specs.Prelude.{ℕ, ◌+◌, Bool, false, cond, ◌&&◌, List, ◌++◌, length, take, drop, ℤ, nat_le, slice_index, Result, Ok, Err}
 use Rattle.std.proofs.Math.Option.{Option, none, some}
 use Rattle.condition.specs.declared.Lent.{Lent}
-use Rattle.condition.specs.declared.ConditionAnswer.{ConditionAnswer}
-use Rattle.condition.specs.declared.ConditionAnswer.TheVariants as condition
-use Rattle.condition.specs.declared.ValueAnswer.{ValueAnswer}
-use Rattle.condition.specs.declared.ValueAnswer.TheVariants as value
-use Rattle.condition.specs.declared.ActionAnswer.{ActionAnswer}
-use Rattle.condition.specs.declared.ActionAnswer.TheVariants as action
+use Rattle.refusal.specs.declared.Refusal.{Refusal}
+use Rattle.refusal.specs.Numbers.{number_of}
 use Rattle.condition.specs.Word.{signed}
 use Rattle.condition.specs.Tree.{Condition, Assignment}
 use Rattle.condition.specs.Parse.{Parsed, malformed, parsed, condition_from, parse_condition, parse_value, parse_action}
@@ -91,17 +87,17 @@ unfoldable pub action_counted : List ℕ → Environment → ℕ
 action_counted s E = cond (action_sized s) (run_counted s E) 0
 
 -- The paper's number and value for each case of the answers; a value is read as signed, an action gives none.
-abbrev pub condition_paper : ConditionAnswer → Evaluation Bool
-condition_paper (condition.Is b) = given b
-condition_paper (condition.Refused n) = refused n
+abbrev pub condition_paper : Result Bool Refusal → Evaluation Bool
+condition_paper (Ok b) = given b
+condition_paper (Err r) = refused (number_of r)
 
-abbrev pub value_paper : ValueAnswer → Evaluation ℤ
-value_paper (value.Is w) = given (signed w)
-value_paper (value.Refused n) = refused n
+abbrev pub value_paper : Result ℕ Refusal → Evaluation ℤ
+value_paper (Ok w) = given (signed w)
+value_paper (Err r) = refused (number_of r)
 
-abbrev pub action_paper : ActionAnswer → Evaluation (Unit {0})
-action_paper action.Done = given tt
-action_paper (action.Refused n) = refused n
+abbrev pub action_paper : Result (Unit {0}) Refusal → Evaluation (Unit {0})
+action_paper (Ok done) = given tt
+action_paper (Err r) = refused (number_of r)
 
 abbrev pub done : Evaluation (List ℕ) → Evaluation (Unit {0})
 done (refused n) = refused n

@@ -1,9 +1,8 @@
 -- What is claimed of conditions, values and actions beside what the operations promise.
-use Rattle.std.specs.Prelude.{◌≡◌, ℕ, ◌^◌, ◌<◌, ◌≤◌, true, false, List, length}
+use Rattle.std.specs.Prelude.{◌≡◌, ℕ, ◌^◌, ◌<◌, ◌≤◌, true, false, List, length, Result, Ok, Err}
 use Rattle.std.proofs.Math.Option.{some}
 use Rattle.condition.specs.declared.Lent.{Lent}
-use Rattle.condition.specs.declared.ValueAnswer.{ValueAnswer}
-use Rattle.condition.specs.declared.ValueAnswer.TheVariants as value
+use Rattle.refusal.specs.declared.Refusal.{Refusal}
 use Rattle.condition.specs.Tree.{Condition, Value, Assignment, condition_bytes, value_bytes, action_bytes, condition_names, value_names, action_names}
 use Rattle.condition.specs.Parse.{unlent, targets_below, parse_condition, parse_value, parse_action}
 use Rattle.condition.specs.Answer.{condition_paper, value_paper, action_paper, condition_counted, value_counted, action_counted}
@@ -13,13 +12,13 @@ use Rattle.condition.specs.Meaning.{Environment}
 abbrev pub Injective : {A B : Type 0} → (A → B) → Type 0
 Injective {A} f = (a b : A) → f a ≡ f b → a ≡ b
 
-abbrev pub IsWord : ValueAnswer → Type 0
-IsWord (value.Is w) = w < 2 ^ 32
-IsWord (value.Refused n) = Unit {0}
+abbrev pub IsWord : Result ℕ Refusal → Type 0
+IsWord (Ok w) = w < 2 ^ 32
+IsWord (Err r) = Unit {0}
 
 pub record Told : Type 0 where
   pub conditions : Injective condition_paper
-  pub values : (a b : ValueAnswer) → IsWord a → IsWord b → value_paper a ≡ value_paper b → a ≡ b
+  pub values : (a b : Result ℕ Refusal) → IsWord a → IsWord b → value_paper a ≡ value_paper b → a ≡ b
   pub actions : Injective action_paper
 
 -- Parsing and bytes undo each other: a tree that names only what is lent is read back from its bytes, and what is read has no other bytes.

@@ -1,5 +1,5 @@
 -- What the private functions that walk over the bytes promise. Places in the bytes stand for what is left of them.
-use Rattle.std.specs.Prelude.{◌≡◌, ℕ, ◌+◌, ◌-◌, ◌/◌, ◌%◌, ◌^◌, ◌<◌, ◌≤◌, Bool, true, false, cond, List, [], length, drop, ◌==◌, ◌≢◌, nat_le, nat_lt, slice_index, slice_index_or, slice_set}
+use Rattle.std.specs.Prelude.{◌≡◌, ℕ, ◌+◌, ◌-◌, ◌/◌, ◌%◌, ◌^◌, ◌<◌, ◌≤◌, Bool, true, false, cond, List, [], length, drop, ◌==◌, ◌≢◌, nat_le, nat_lt, slice_index, slice_index_or, slice_set, Option, Some, None}
 use Rattle.std.specs.Borrow.{Bor}
 use Rattle.condition.specs.declared.Lent.{Lent}
 use Rattle.condition.specs.Word.{big_endian}
@@ -161,6 +161,11 @@ pub record Assigns (E : Environment) (s : List ℕ) (at n r total count : ℕ) (
   pub rest : drop count after ≡ drop count before
   pub means : (k : ℕ) → length s - (at + 1) ≤ k → Gives (λ a. (after ≡ slice_set before a.target (word a.source E)) × ((a.target < count) × (total ≡ n + value_count a.source E))) (assignment_from k (lent E) (drop at s))
 
--- what is answered for a run that was well formed or not
-abbrev pub ran : Bool → Evaluation (Unit {0})
-ran formed = cond formed (given tt) (refused 5)
+-- what is answered for a run that was carried out, with how much was evaluated of it, or was malformed
+abbrev pub ran : Option ℕ → Evaluation (Unit {0})
+ran (Some n) = given tt
+ran None = refused 5
+
+abbrev pub evaluated : Option ℕ → ℕ
+evaluated (Some n) = n
+evaluated None = 0

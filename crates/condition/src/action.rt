@@ -4,29 +4,23 @@ ghost use Rattle.std.specs.Prelude.{◌≡◌, ◌+◌, ◌/◌, ◌%◌, ◌^�
 ghost use Rattle.condition.specs.Parse.{parse_action};
 ghost use Rattle.condition.specs.Meaning.{environment};
 ghost use Rattle.condition.specs.Answer.{most_variables, run_outcome, run_counted, done, performed_on, whether};
-ghost use Rattle.condition.specs.Walk.{Cursor, ValueAt, SkipsAssignment, Assigns, ran};
+ghost use Rattle.condition.specs.Walk.{Cursor, ValueAt, SkipsAssignment, Assigns, ran, evaluated};
 
 use crate::evaluate::C;
 use crate::word::wide;
 use crate::{Lent, VARIABLES, evaluate, front, skip};
 
-// Whether a run is well formed, and how much was evaluated of its values: nothing where it is not.
-#[derive(Clone, Copy)]
-pub(crate) struct Ran {
-    pub formed: bool,
-    pub count: u32,
-}
-
-// Carries out a whole run, in order. A malformed one changes no variable.
+// Carries out a whole run, in order: how much was evaluated of its values. A malformed one is none, and
+// changes no variable.
 pub(crate) fn run<'a>(
     s: &[u8],
     program: &'a [u32],
     variables: &mut [u32; VARIABLES],
     count: usize,
     kept: &'a [u32],
-) -> Ran
+) -> Option<u32>
     requires { length s.now ≤ 65534 }
-    ensures { (ran result.formed ≡ done (run_outcome s.now (environment program.now (take count variables.old) kept.now))) × (variables.new ≡ performed_on count variables.old (run_outcome s.now (environment program.now (take count variables.old) kept.now))) × (result.count ≡ run_counted s.now (environment program.now (take count variables.old) kept.now)) }
+    ensures { (ran result ≡ done (run_outcome s.now (environment program.now (take count variables.old) kept.now))) × (variables.new ≡ performed_on count variables.old (run_outcome s.now (environment program.now (take count variables.old) kept.now))) × (evaluated result ≡ run_counted s.now (environment program.now (take count variables.old) kept.now)) }
 {
     let before = *variables;
     let mut c = 0;
@@ -34,16 +28,10 @@ pub(crate) fn run<'a>(
         c = assign(s, c, program, variables, count, kept);
     }
     if c % C == s.len() {
-        Ran {
-            formed: true,
-            count: (c / C) as u32,
-        }
+        Some((c / C) as u32)
     } else {
         *variables = before;
-        Ran {
-            formed: false,
-            count: 0,
-        }
+        None
     }
 }
 

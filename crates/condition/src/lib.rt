@@ -14,6 +14,7 @@ mod skip;
 mod word;
 
 use crate::evaluate::C;
+use refusal::Refusal;
 
 // The most bytes of a condition or a value, and of an action.
 pub const LONGEST: usize = 1024;
@@ -32,35 +33,23 @@ pub struct Lent {
     pub kept: usize,
 }
 
+// What evaluating answers, and how many operators and operands were evaluated for it: none where it is
+// refused.
 #[derive(Clone, Copy)]
-pub enum ConditionAnswer {
-    Is(bool),
-    Refused(u8),
-}
-
-#[derive(Clone, Copy)]
-pub enum ValueAnswer {
-    Is(u32),
-    Refused(u8),
-}
-
-#[derive(Clone, Copy)]
-pub enum ActionAnswer {
-    Done,
-    Refused(u8),
-}
-
-// An answer, and how many operators and operands were evaluated for it: none where it is a refusal.
-#[derive(Clone, Copy)]
-pub struct CountedCondition {
-    pub answer: ConditionAnswer,
+pub struct Counted<T> {
+    pub answer: Result<T, Refusal>,
     pub count: u32,
 }
 
-#[derive(Clone, Copy)]
-pub struct CountedValue {
-    pub answer: ValueAnswer,
-    pub count: u32,
+impl<T> Counted<T> {
+    fn refused(reason: Refusal) -> Counted<T>
+        ensures { result ≡ record { answer = Err reason; count = 0 } }
+    {
+        Counted {
+            answer: Err(reason),
+            count: 0,
+        }
+    }
 }
 
 #[derive(Clone, Copy)]
@@ -71,7 +60,7 @@ pub struct Held {
 
 #[derive(Clone, Copy)]
 pub struct Performed {
-    pub answer: ActionAnswer,
+    pub answer: Result<(), Refusal>,
     pub variables: [u32; VARIABLES],
     pub count: u32,
 }
@@ -94,27 +83,21 @@ pub fn evaluate_condition<'a>(
     program: &'a [u32],
     monitor: &'a [u32],
     kept: &'a [u32],
-) -> CountedCondition
+) -> Counted<bool>
     ensures { (condition_paper result.answer ≡ condition_outcome s.now (environment program.now monitor.now kept.now)) × (result.count ≡ condition_counted s.now (environment program.now monitor.now kept.now)) }
 {
     if (1 <= s.len()) & (s.len() <= LONGEST) {} else {
-        return CountedCondition {
-            answer: ConditionAnswer::Refused(4),
-            count: 0,
-        };
+        return Counted::refused(Refusal::Lengths);
     }
     let e = [program, monitor, kept];
     let r = evaluate::condition(&s, 0, &e);
     if r / 2 % C == s.len() {
-        CountedCondition {
-            answer: ConditionAnswer::Is(r % 2 == 1),
+        Counted {
+            answer: Ok(r % 2 == 1),
             count: (r / 2 / C) as u32,
         }
     } else {
-        CountedCondition {
-            answer: ConditionAnswer::Refused(5),
-            count: 0,
-        }
+        Counted::refused(Refusal::Grammar)
     }
 }
 
@@ -165,27 +148,21 @@ pub fn evaluate_value<'a>(
     program: &'a [u32],
     monitor: &'a [u32],
     kept: &'a [u32],
-) -> CountedValue
+) -> Counted<u32>
     ensures { (value_paper result.answer ≡ value_outcome s.now (environment program.now monitor.now kept.now)) × (result.count ≡ value_counted s.now (environment program.now monitor.now kept.now)) }
 {
     if (1 <= s.len()) & (s.len() <= LONGEST) {} else {
-        return CountedValue {
-            answer: ValueAnswer::Refused(4),
-            count: 0,
-        };
+        return Counted::refused(Refusal::Lengths);
     }
     let e = [program, monitor, kept];
     let r = evaluate::value(&s, 0, &e);
     if r / 4294967296 % C == s.len() {
-        CountedValue {
-            answer: ValueAnswer::Is((r % 4294967296) as u32),
+        Counted {
+            answer: Ok((r % 4294967296) as u32),
             count: (r / 4294967296 / C) as u32,
         }
     } else {
-        CountedValue {
-            answer: ValueAnswer::Refused(5),
-            count: 0,
-        }
+        Counted::refused(Refusal::Grammar)
     }
 }
 
@@ -201,25 +178,23 @@ pub fn perform<'a>(
 {
     if s.len() <= LONGEST_ACTION {} else {
         return Performed {
-            answer: ActionAnswer::Refused(4),
+            answer: Err(Refusal::Lengths),
             variables,
             count: 0,
         };
     }
     let mut present = variables;
-    let ran = action::run(s, program, &mut present, count, kept);
-    if ran.formed {
-        Performed {
-            answer: ActionAnswer::Done,
+    match action::run(s, program, &mut present, count, kept) {
+        Some(evaluated) => Performed {
+            answer: Ok(()),
             variables: present,
-            count: ran.count,
-        }
-    } else {
-        Performed {
-            answer: ActionAnswer::Refused(5),
+            count: evaluated,
+        },
+        None => Performed {
+            answer: Err(Refusal::Grammar),
             variables: present,
-            count: ran.count,
-        }
+            count: 0,
+        },
     }
 }
 
@@ -236,8 +211,7 @@ pub fn perform_at(
 {
     let text = text_at(s, at);
     if text.len() <= LONGEST_ACTION {
-        let ran = action::run(text, program, variables, count, &program[..0]);
-        ran.count
+        action::run(text, program, variables, count, &program[..0]).unwrap_or(0)
     } else {
         0
     }

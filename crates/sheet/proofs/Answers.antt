@@ -2,10 +2,11 @@
 use mathlib.Core.Path.{◌≡◌, refl, sym, ap, ◌∙◌}
 use Prim.Native.Nat.{ℕ, zero, suc}
 use native.Mathlib.Omega.{arith}
-use Rattle.sheet.specs.declared.Reading.{Reading}
-use Rattle.sheet.specs.declared.Reading.TheVariants.{Accepted, Refused}
-use Rattle.sheet.specs.declared.LogReading.{LogReading}
-use Rattle.sheet.specs.declared.LogReading.TheVariants as log
+use Rattle.std.specs.Prelude.{Result, Ok, Err}
+use Rattle.refusal.specs.declared.Refusal.{Refusal}
+use Rattle.refusal.specs.Numbers.{number_of}
+use Rattle.refusal.proofs.Numbers.{number_one}
+use Rattle.condition.specs.Claims.{Injective}
 use Rattle.sheet.specs.Answer.{Read, accepted, refused, reading_paper, log_paper, read_of, answer}
 
 -- the number that a word refuses with, one more where it has one
@@ -23,29 +24,29 @@ module _ {A : Type 0} (a b : A) where
   refused_suc zero m e = absurd (omega (arith, ap numbered e))
   refused_suc (suc n) m e = (n, refl, omega (arith, ap numbered e))
 
-module _ (n : ℕ) (r : Reading) (e : reading_paper r ≡ answer n) where
-  pub answer_accepted : r ≡ Accepted → n ≡ 0
+module _ (n : ℕ) (r : Result (Unit {0}) Refusal) (e : reading_paper r ≡ answer n) where
+  pub answer_accepted : r ≡ Ok tt → n ≡ 0
   answer_accepted h = accepted_zero tt tt n (sym e ∙ ap reading_paper h)
 
-  pub answer_refused : (m : ℕ) → r ≡ Refused m → (k : ℕ) × (n ≡ suc k) × (m ≡ suc k)
-  answer_refused m h = refused_suc tt tt n m (sym e ∙ ap reading_paper h)
+  pub answer_refused : (m : Refusal) → r ≡ Err m → (k : ℕ) × (n ≡ suc k) × (number_of m ≡ suc k)
+  answer_refused m h = refused_suc tt tt n (number_of m) (sym e ∙ ap reading_paper h)
 
-module _ (n k : ℕ) (r : LogReading) (e : log_paper r ≡ read_of n k) where
-  pub log_read : (m : ℕ) → r ≡ log.Records m → n ≡ 0
+module _ (n k : ℕ) (r : Result ℕ Refusal) (e : log_paper r ≡ read_of n k) where
+  pub log_read : (m : ℕ) → r ≡ Ok m → n ≡ 0
   log_read m h = accepted_zero k m n (sym e ∙ ap log_paper h)
 
-  pub log_refused : (m : ℕ) → r ≡ log.Refused m → (j : ℕ) × (n ≡ suc j) × (m ≡ suc j)
-  log_refused m h = refused_suc k k n m (sym e ∙ ap log_paper h)
+  pub log_refused : (m : Refusal) → r ≡ Err m → (j : ℕ) × (n ≡ suc j) × (number_of m ≡ suc j)
+  log_refused m h = refused_suc k k n (number_of m) (sym e ∙ ap log_paper h)
 
 -- Different answers have different words.
-pub reading_injective : (a b : Reading) → reading_paper a ≡ reading_paper b → a ≡ b
-reading_injective Accepted Accepted e = refl
-reading_injective Accepted (Refused m) e = absurd (omega (arith, ap numbered e))
-reading_injective (Refused n) Accepted e = absurd (omega (arith, ap numbered e))
-reading_injective (Refused n) (Refused m) e = ap Refused (omega (arith, ap numbered e))
+pub reading_injective : Injective reading_paper
+reading_injective (Ok a) (Ok b) e = refl
+reading_injective (Ok a) (Err m) e = absurd (omega (arith, ap numbered e))
+reading_injective (Err n) (Ok b) e = absurd (omega (arith, ap numbered e))
+reading_injective (Err n) (Err m) e = ap Err (number_one n m (omega (arith, ap numbered e)))
 
-pub log_injective : (a b : LogReading) → log_paper a ≡ log_paper b → a ≡ b
-log_injective (log.Records n) (log.Records m) e = ap log.Records (cc)
-log_injective (log.Records n) (log.Refused m) e = absurd (omega (arith, ap numbered e))
-log_injective (log.Refused n) (log.Records m) e = absurd (omega (arith, ap numbered e))
-log_injective (log.Refused n) (log.Refused m) e = ap log.Refused (omega (arith, ap numbered e))
+pub log_injective : Injective log_paper
+log_injective (Ok n) (Ok m) e = ap Ok (cc)
+log_injective (Ok n) (Err m) e = absurd (omega (arith, ap numbered e))
+log_injective (Err n) (Ok m) e = absurd (omega (arith, ap numbered e))
+log_injective (Err n) (Err m) e = ap Err (number_one n m (omega (arith, ap numbered e)))

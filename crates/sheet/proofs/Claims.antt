@@ -8,33 +8,18 @@ use Rattle.condition.specs.Word.{big_endian}
 use Rattle.condition.specs.Tree.{condition_names, value_names, action_names, is_monitor, is_at_entry}
 use Rattle.condition.specs.Parse.{is_lent, literal, numbered, condition_operator, value_operator, condition_from, value_from, parse_condition, assignment_from, run_from, parse_action}
 use Rattle.condition.specs.Answer.{condition_which, action_which}
-use Rattle.condition.specs.Claims.{Injective}
-use Rattle.sheet.specs.declared.Reading.TheVariants as reading
-use Rattle.sheet.specs.declared.LogReading.TheVariants as log
 use Rattle.sheet.specs.Table.{records, extent, every}
 use Rattle.sheet.specs.Decode.{conditions_at, actions_at, transitions_at, last_at, common_of}
 use Rattle.sheet.specs.Reading.{reading, whole, counted, tabled, formed, roled, ranged, transition_ranged, triple_ranged, together, pair_ranged, template_ranged}
 use Rattle.sheet.specs.Encode.{written}
-use Rattle.sheet.specs.Answer.{reading_paper, log_paper}
+use Rattle.sheet.proofs.Answers.{reading_injective, log_injective}
 use Rattle.sheet.specs.Claims.{Told, Longest, ReadBack}
 use Rattle.sheet.proofs.Encoding.{admitted_decode, reading_encode}
 use Rattle.sheet.proofs.Limits.{sheet_longest, most_network, network_longest}
 use Rattle.sheet.specs.Rows.{longest_sheet, longest_network}
 
-told_reading : Injective reading_paper
-told_reading reading.Accepted reading.Accepted e = refl
-told_reading reading.Accepted (reading.Refused m) e = let z : ◌≡◌ {A = ℕ} 0 1 = cc in absurd (omega arith)
-told_reading (reading.Refused n) reading.Accepted e = let z : ◌≡◌ {A = ℕ} 0 1 = cc in absurd (omega arith)
-told_reading (reading.Refused n) (reading.Refused m) e = let x : n ≡ m = cc in ap reading.Refused x
-
-told_log : Injective log_paper
-told_log (log.Records n) (log.Records m) e = let x : n ≡ m = cc in ap log.Records x
-told_log (log.Records n) (log.Refused m) e = let z : ◌≡◌ {A = ℕ} 0 1 = cc in absurd (omega arith)
-told_log (log.Refused n) (log.Records m) e = let z : ◌≡◌ {A = ℕ} 0 1 = cc in absurd (omega arith)
-told_log (log.Refused n) (log.Refused m) e = let x : n ≡ m = cc in ap log.Refused x
-
 pub told : Told
-told = record { readings = told_reading; logs = told_log }
+told = record { readings = reading_injective; logs = log_injective }
 
 pub longest : Longest
 unfolding reading whole counted tabled formed roled ranged transition_ranged triple_ranged together pair_ranged template_ranged records extent every conditions_at actions_at transitions_at last_at common_of big_endian condition_names value_names action_names is_monitor is_at_entry is_lent literal numbered condition_operator value_operator condition_from value_from parse_condition assignment_from run_from parse_action condition_which action_which written

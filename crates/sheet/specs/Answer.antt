@@ -1,9 +1,7 @@
 -- The answers of the crate's operations: the paper's numbers and values for each case.
-use Rattle.std.specs.Prelude.{false, List, ℕ, zero, suc}
-use Rattle.sheet.specs.declared.Reading.{Reading}
-use Rattle.sheet.specs.declared.Reading.TheVariants as sheet
-use Rattle.sheet.specs.declared.LogReading.{LogReading}
-use Rattle.sheet.specs.declared.LogReading.TheVariants as log
+use Rattle.std.specs.Prelude.{false, List, ℕ, zero, suc, Result, Ok, Err}
+use Rattle.refusal.specs.declared.Refusal.{Refusal}
+use Rattle.refusal.specs.Numbers.{number_of}
 use Rattle.sheet.specs.declared.Header.{Header}
 use Rattle.sheet.specs.declared.Places.{Places}
 use Rattle.sheet.specs.declared.Record.{Record}
@@ -17,13 +15,13 @@ pub data Read (A : Type 0) : Type 0 where
   accepted : A → Read A
   refused : ℕ → Read A
 
-abbrev pub reading_paper : Reading → Read (Unit {0})
-reading_paper sheet.Accepted = accepted tt
-reading_paper (sheet.Refused n) = refused n
+abbrev pub reading_paper : Result (Unit {0}) Refusal → Read (Unit {0})
+reading_paper (Ok done) = accepted tt
+reading_paper (Err r) = refused (number_of r)
 
-abbrev pub log_paper : LogReading → Read ℕ
-log_paper (log.Records n) = accepted n
-log_paper (log.Refused n) = refused n
+abbrev pub log_paper : Result ℕ Refusal → Read ℕ
+log_paper (Ok n) = accepted n
+log_paper (Err r) = refused (number_of r)
 
 -- by the number of the refusal; 0 stands for none
 abbrev pub read_of : {A : Type 0} → ℕ → A → Read A

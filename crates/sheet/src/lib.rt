@@ -23,12 +23,7 @@ mod spread;
 mod table;
 mod walk;
 
-// What reading a sheet or a network answers.
-#[derive(Clone, Copy)]
-pub enum Reading {
-    Accepted,
-    Refused(u8),
-}
+use refusal::Refusal;
 
 // How many states, units, conditions and actions there are.
 #[derive(Clone, Copy)]
@@ -94,13 +89,6 @@ pub struct Template {
     pub postcondition: u8,
 }
 
-// What reading a log answers: how many records it has, or the refusal.
-#[derive(Clone, Copy)]
-pub enum LogReading {
-    Records(usize),
-    Refused(u8),
-}
-
 // A record of a log without its values.
 #[derive(Clone, Copy)]
 pub struct Record {
@@ -110,17 +98,17 @@ pub struct Record {
 }
 
 // Reads a sheet: accepted, or the first of refusals 1 to 8 that applies.
-pub fn read_sheet(s: &[u8]) -> Reading
+pub fn read_sheet(s: &[u8]) -> Result<(), Refusal>
     ensures { reading_paper result ≡ answer (reading sheet_layout s.now) }
 {
-    read::answer(read::sheet_refusal(s))
+    read::sheet(s)
 }
 
 // Reads a network: accepted, or the first of refusals 1 to 7 that applies.
-pub fn read_network(s: &[u8]) -> Reading
+pub fn read_network(s: &[u8]) -> Result<(), Refusal>
     ensures { reading_paper result ≡ answer (reading network_layout s.now) }
 {
-    read::answer(read::network_refusal(s))
+    read::network(s)
 }
 
 // The numbers of the header.
@@ -227,8 +215,8 @@ pub fn template_at(s: &[u8], at: u32) -> Template
     records::template(s, bytes::place(at))
 }
 
-// Reads a log for so many program variables.
-pub fn read_log(s: &[u8], programs: u8) -> LogReading
+// Reads a log for so many program variables: how many records it has.
+pub fn read_log(s: &[u8], programs: u8) -> Result<usize, Refusal>
     ensures { log_paper result ≡ read_of (log_reading programs s.now) (records_in programs s.now) }
 {
     log::read(s, bytes::wide(programs))

@@ -7,9 +7,10 @@ ghost use Rattle.sheet.specs.Log.{log_reading, records_in};
 ghost use Rattle.sheet.specs.Answer.{log_paper, read_of, record_of};
 
 use crate::bytes::{byte, half, number, place};
-use crate::{LogReading, Record, bytes};
+use crate::{Record, bytes};
+use refusal::Refusal;
 
-pub(crate) fn read(s: &[u8], programs: usize) -> LogReading
+pub(crate) fn read(s: &[u8], programs: usize) -> Result<usize, Refusal>
     requires { programs ≤ 255 }
     ensures { log_paper result ≡ read_of (log_reading programs s.now) (records_in programs s.now) }
 {
@@ -17,17 +18,17 @@ pub(crate) fn read(s: &[u8], programs: usize) -> LogReading
     let version = number(s, 4);
     let lent = number(s, 5);
     if (6 <= s.len()) & ((said == s.len()) & (version == 1)) {} else {
-        return LogReading::Refused(16);
+        return Err(Refusal::LogHead);
     }
     if lent == programs {} else {
-        return LogReading::Refused(17);
+        return Err(Refusal::LogPrograms);
     }
     let size = 4 + 4 * programs;
     let rest = s.len() - 6;
     if rest % size == 0 {
-        LogReading::Records(rest / size)
+        Ok(rest / size)
     } else {
-        LogReading::Refused(18)
+        Err(Refusal::LogRecords)
     }
 }
 

@@ -1,4 +1,4 @@
-// Reading a sheet or a network: the first refusal that applies, or 0.
+// Reading a sheet or a network: the first refusal that applies, if one does.
 
 ghost use Rattle.std.specs.Prelude.{◌≡◌, ◌≤◌};
 ghost use Rattle.sheet.specs.Bytes.{byte};
@@ -11,8 +11,9 @@ use crate::bytes::{byte, has_wide, number};
 use crate::index::index;
 use crate::spread::spread;
 use crate::walk::Tables;
-use crate::{Counts, Reading, formed, head, ranged, roles, walk};
+use crate::{Counts, formed, head, ranged, roles, walk};
 use condition::Lent;
+use refusal::Refusal;
 
 fn lent(s: &[u8]) -> Lent
     ensures { result ≡ lent_in (common_of s.now) }
@@ -87,35 +88,36 @@ fn network_roled(s: &[u8], t: Tables) -> bool
             & roles::templates_suit(s, t.last, number(s, 13), &i, n, l))
 }
 
-pub(crate) fn sheet_refusal(s: &[u8]) -> u8
-    ensures { result ≡ reading sheet_layout s.now }
+pub(crate) fn sheet(s: &[u8]) -> Result<(), Refusal>
+    ensures { reading_paper result ≡ answer (reading sheet_layout s.now) }
 {
     if head::whole(s) {} else {
-        return 1;
+        return Err(Refusal::Size);
     }
     if head::version_is(s, 1, 1) {} else {
-        return 2;
+        return Err(Refusal::Version);
     }
     if head::counts_hold(s, 64, 32, 64) {} else {
-        return 3;
+        return Err(Refusal::Counts);
     }
     let t = walk::sheet_tables(s);
     if t.ok & (t.end == s.len()) {} else {
-        return 4;
+        return Err(Refusal::Lengths);
     }
     if texts_formed(s, t.conditions, t.actions) {} else {
-        return 5;
+        return Err(Refusal::Grammar);
     }
     if sheet_ranged(s, t) {} else {
-        return 6;
+        return Err(Refusal::Ranges);
     }
     if sheet_roled(s, t) {} else {
-        return 7;
+        return Err(Refusal::Roles);
     }
-    if spread(s, t.last, number(s, 13)) {} else {
-        return 8;
+    if spread(s, t.last, number(s, 13)) {
+        Ok(())
+    } else {
+        Err(Refusal::Crowded)
     }
-    0
 }
 
 // The most conditions of a network.
@@ -131,41 +133,30 @@ fn network_counts(s: &[u8]) -> bool
     head::counts_hold(s, most_conditions(has_wide(s)), 33, 96)
 }
 
-pub(crate) fn network_refusal(s: &[u8]) -> u8
-    ensures { result ≡ reading network_layout s.now }
+pub(crate) fn network(s: &[u8]) -> Result<(), Refusal>
+    ensures { reading_paper result ≡ answer (reading network_layout s.now) }
 {
     if head::whole(s) {} else {
-        return 1;
+        return Err(Refusal::Size);
     }
     if head::version_is(s, 2, 3) {} else {
-        return 2;
+        return Err(Refusal::Version);
     }
     if network_counts(s) {} else {
-        return 3;
+        return Err(Refusal::Counts);
     }
     let t = walk::network_tables(s);
     if t.ok & (t.end == s.len()) {} else {
-        return 4;
+        return Err(Refusal::Lengths);
     }
     if texts_formed(s, t.conditions, t.actions) {} else {
-        return 5;
+        return Err(Refusal::Grammar);
     }
     if network_ranged(s, t) {} else {
-        return 6;
+        return Err(Refusal::Ranges);
     }
     if network_roled(s, t) {} else {
-        return 7;
+        return Err(Refusal::Roles);
     }
-    0
-}
-
-// 0 stands for an accepted input.
-pub(crate) fn answer(n: u8) -> Reading
-    ensures { reading_paper result ≡ answer n }
-{
-    if n == 0 {
-        Reading::Accepted
-    } else {
-        Reading::Refused(n)
-    }
+    Ok(())
 }

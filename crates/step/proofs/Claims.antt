@@ -3,7 +3,9 @@ use mathlib.Core.Path.{◌≡◌, refl, ap, ap₂}
 use Prim.Native.Nat.{ℕ}
 use native.Mathlib.Omega.{arith}
 use Rattle.condition.specs.Claims.{Injective}
-use Rattle.step.specs.declared.Answer.TheVariants as answer
+use Rattle.std.specs.Prelude.{Ok, Err}
+use Rattle.refusal.specs.Numbers.{number_of}
+use Rattle.refusal.proofs.Numbers.{number_one}
 use Rattle.step.specs.declared.RunAnswer.TheVariants as run
 use Rattle.step.specs.Verdicts.{cause_state, cause_triple}
 use Rattle.step.specs.Answers.{answer_paper, run_paper}
@@ -11,10 +13,10 @@ use Rattle.step.specs.Claims.{Told}
 use Rattle.step.proofs.OnEvents.Causes.{verdict_same}
 
 told_answer : Injective answer_paper
-told_answer answer.Taken answer.Taken e = refl
-told_answer answer.Taken (answer.Refused m) e = let z : ◌≡◌ {A = ℕ} 0 1 = cc in absurd (omega arith)
-told_answer (answer.Refused n) answer.Taken e = let z : ◌≡◌ {A = ℕ} 0 1 = cc in absurd (omega arith)
-told_answer (answer.Refused n) (answer.Refused m) e = let x : n ≡ m = cc in ap answer.Refused x
+told_answer (Ok a) (Ok b) e = refl
+told_answer (Ok a) (Err m) e = let z : ◌≡◌ {A = ℕ} 0 1 = cc in absurd (omega arith)
+told_answer (Err n) (Ok b) e = let z : ◌≡◌ {A = ℕ} 0 1 = cc in absurd (omega arith)
+told_answer (Err n) (Err m) e = let x : number_of n ≡ number_of m = cc in ap Err (number_one n m x)
 
 told_run : Injective run_paper
 told_run (run.Violated u) (run.Violated v) e =
@@ -28,11 +30,11 @@ told_run (run.Clean n q k) (run.Clean m p j) e =
     let y : q ≡ p = cc in
     let z : k ≡ j = cc in
     λ i. run.Clean (x i) (y i) (z i)
-told_run (run.Refused n) (run.Refused m) e = let x : n ≡ m = cc in ap run.Refused x
+told_run (run.Refused n) (run.Refused m) e = let x : number_of n ≡ number_of m = cc in ap run.Refused (number_one n m x)
 told_run (run.RefusedAt n i) (run.RefusedAt m j) e =
-    let x : n ≡ m = cc in
+    let x : number_of n ≡ number_of m = cc in
     let y : i ≡ j = cc in
-    ap₂ run.RefusedAt x y
+    ap₂ run.RefusedAt (number_one n m x) y
 told_run (run.Violated u) (run.Clean m p j) e = let z : ◌≡◌ {A = ℕ} 0 1 = cc in absurd (omega arith)
 told_run (run.Violated u) (run.Refused m) e = let z : ◌≡◌ {A = ℕ} 0 1 = cc in absurd (omega arith)
 told_run (run.Violated u) (run.RefusedAt m j) e = let z : ◌≡◌ {A = ℕ} 0 1 = cc in absurd (omega arith)

@@ -1,10 +1,10 @@
 -- The answers of the engines: the paper's words and numbers for each case, and what both engines make of a refusal.
-use Rattle.std.specs.Prelude.{Bool, cond, List, ℕ, zero, suc, length}
+use Rattle.std.specs.Prelude.{Bool, cond, List, ℕ, zero, suc, length, Result, Ok, Err}
 use Rattle.std.proofs.Math.Option.{Option}
 use Rattle.sheet.specs.Reading.{unless, or_else}
 use Rattle.sheet.specs.Log.{Event, log_reading, events_of}
-use Rattle.step.specs.declared.Answer.{Answer}
-use Rattle.step.specs.declared.Answer.TheVariants.{Taken, Refused}
+use Rattle.refusal.specs.declared.Refusal.{Refusal}
+use Rattle.refusal.specs.Numbers.{number_of}
 use Rattle.step.specs.declared.RunAnswer.{RunAnswer}
 use Rattle.step.specs.declared.RunAnswer.TheVariants as run
 use Rattle.step.specs.Verdicts.{cause_state, cause_triple}
@@ -17,9 +17,9 @@ pub data Response : Type 0 where
   taken : Response
   declined : ℕ → Response
 
-abbrev pub answer_paper : Answer → Response
-answer_paper Taken = taken
-answer_paper (Refused n) = declined n
+abbrev pub answer_paper : Result (Unit {0}) Refusal → Response
+answer_paper (Ok done) = taken
+answer_paper (Err r) = declined (number_of r)
 
 -- "`violated N state S triple T entry E`" (position; `-` for none; E is 0 where no triple failed), "`clean N state S open K` (events, main state, open calls), `refused N`, or `refused N at R`"
 pub data Ending : Type 0 where
@@ -31,8 +31,8 @@ pub data Ending : Type 0 where
 abbrev pub run_paper : RunAnswer → Ending
 run_paper (run.Violated v) = violated v.position (cause_state v.cause) (cause_triple v.cause) v.entry
 run_paper (run.Clean n q k) = clean n q k
-run_paper (run.Refused n) = refused n
-run_paper (run.RefusedAt n i) = refused_at n i
+run_paper (run.Refused r) = refused (number_of r)
+run_paper (run.RefusedAt r i) = refused_at (number_of r) i
 
 -- by the number of the refusal; 0 stands for taken
 abbrev pub answer_of : ℕ → Response

@@ -1,12 +1,11 @@
 -- Verdicts (document 01, "One event").
-use Rattle.std.specs.Prelude.{Bool, true, false, not, cond, ◌&&◌, ℕ, eqb, leb, ltb}
+use Rattle.std.specs.Prelude as Prelude
+use Rattle.std.specs.Prelude.{Bool, true, false, not, cond, ◌&&◌, ℕ, eqb, leb, ltb, Some, None}
 use Rattle.std.proofs.Math.Option.{Option, none, some}
 use Rattle.sheet.specs.Reading.{is_bad}
 use Rattle.step.specs.declared.Cause.{Cause}
 use Rattle.step.specs.declared.Cause.TheVariants as cause
 use Rattle.step.specs.declared.Verdict.{Verdict}
-use Rattle.step.specs.declared.Outcome.{Outcome}
-use Rattle.step.specs.declared.Outcome.TheVariants.{Open, Judged}
 
 -- "its cause: the bad state, the lowest failing triple, or both"
 abbrev pub cause_of : Option ℕ → Option ℕ → Option Cause
@@ -64,10 +63,10 @@ verdict_fits bad triples main position (some v) =
     && entry_fits (cause_triple v.cause) v.position v.entry))
 
 -- a verdict as a state holds it
-abbrev pub outcome_of : Option Verdict → Outcome
-outcome_of none = Open
-outcome_of (some v) = Judged v
+abbrev pub outcome_of : Option Verdict → Prelude.Option Verdict
+outcome_of none = None
+outcome_of (some v) = Some v
 
-abbrev pub verdict_in : Outcome → Option Verdict
-verdict_in Open = none
-verdict_in (Judged v) = some v
+abbrev pub verdict_in : Prelude.Option Verdict → Option Verdict
+verdict_in None = none
+verdict_in (Some v) = some v

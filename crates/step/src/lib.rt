@@ -7,6 +7,8 @@ ghost use Rattle.step.specs.Lists.{any, place_of};
 pub mod outcomes;
 pub mod rows;
 
+use refusal::Refusal;
+
 // The most calls that are open at once, the most values of an event, and the most numbers armed for a
 // call.
 pub const CALLS: usize = 16;
@@ -32,28 +34,14 @@ pub struct Verdict {
     pub entry: u32,
 }
 
-// Whether there is a verdict.
-#[derive(Clone, Copy)]
-pub enum Outcome {
-    Open,
-    Judged(Verdict),
-}
-
-// What offering an event answers.
-#[derive(Clone, Copy)]
-pub enum Answer {
-    Taken,
-    Refused(u8),
-}
-
 // What running a log answers: the verdict; or how many events there were, the main state and how
 // many calls are open; or a refusal; or that of an event, and its record.
 #[derive(Clone, Copy)]
 pub enum RunAnswer {
     Violated(Verdict),
     Clean(u32, u8, u8),
-    Refused(u8),
-    RefusedAt(u8, u32),
+    Refused(Refusal),
+    RefusedAt(Refusal, u32),
 }
 
 // What running a log answers, and how much was evaluated in all its events.

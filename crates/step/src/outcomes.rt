@@ -5,11 +5,11 @@ ghost use Rattle.step.specs.Verdicts.{if_there, cause_state, cause_triple, verdi
 ghost use Rattle.step.specs.Walk.{number_in};
 ghost use Rattle.sheet.specs.Reading.{is_bad};
 
-use crate::{Cause, Outcome, Verdict};
+use crate::{Cause, Verdict};
 
 // The outcome of an event: at a position, for the bad states, the new main state, the lowest failing
 // triple (256 or more for none), and the position of the entry of its call.
-pub fn outcome(bad: u16, position: u32, main: u8, lowest: u16, entry: u32) -> Outcome
+pub fn outcome(bad: u16, position: u32, main: u8, lowest: u16, entry: u32) -> Option<Verdict>
     ensures { result ≡ outcome_of (verdict bad position main (number_in lowest) entry) }
 {
     let is_bad = sheet::is_bad(bad, main);
@@ -20,32 +20,38 @@ pub fn outcome(bad: u16, position: u32, main: u8, lowest: u16, entry: u32) -> Ou
         } else {
             Cause::Triple(triple)
         };
-        Outcome::Judged(Verdict {
+        Some(Verdict {
             position,
             cause,
             entry,
         })
     } else {
         if is_bad {
-            Outcome::Judged(Verdict {
+            Some(Verdict {
                 position,
                 cause: Cause::BadState(main),
                 entry: 0,
             })
         } else {
-            Outcome::Open
+            None
         }
     }
 }
 
 // Whether an outcome is sound in a state: for the bad states, how many triples there are, the main
 // state and the position.
-pub fn outcome_fits(bad: u16, triples: u8, main: u8, position: u32, outcome: Outcome) -> bool
+pub fn outcome_fits(
+    bad: u16,
+    triples: u8,
+    main: u8,
+    position: u32,
+    outcome: Option<Verdict>,
+) -> bool
     ensures { result ≡ verdict_fits bad triples main position (verdict_in outcome) }
 {
     match outcome {
-        Outcome::Open => !sheet::is_bad(bad, main),
-        Outcome::Judged(v) => {
+        None => !sheet::is_bad(bad, main),
+        Some(v) => {
             let fits = cause_fits(bad, triples, main, v);
             (v.position == position) & fits
         }
@@ -66,11 +72,11 @@ fn cause_fits(bad: u16, triples: u8, main: u8, v: Verdict) -> bool
 }
 
 // Whether there is a verdict.
-pub fn is_judged(outcome: Outcome) -> bool
+pub fn is_judged(outcome: Option<Verdict>) -> bool
     ensures { result ≡ is_judged (verdict_in outcome) }
 {
     match outcome {
-        Outcome::Open => false,
-        Outcome::Judged(_) => true,
+        None => false,
+        Some(_) => true,
     }
 }

@@ -4,7 +4,7 @@ use Rattle.condition.proofs.Answering.{walkable, condition_length, condition_ans
 use Rattle.condition.proofs.evaluate_condition.Goals as goal
 
 pub returns-else-s : goal.returns-else-s
-returns-else-s c = condition_length _ _ c.if-s.false
+returns-else-s c = rw c.refused.ensures (condition_length _ _ c.if-s.false)
 
 pub condition-r-requires : goal.condition-r-requires
 condition-r-requires c = walkable c.args.s.now c.if-s.true
@@ -15,4 +15,4 @@ returns-then-r-s c = condition_answer _ _ c.if-s.true _ _ _ c.condition-r.ensure
 
 pub returns-else-r-s : goal.returns-else-r-s
 unfolding banks
-returns-else-r-s c = condition_malformed _ _ c.if-s.true _ _ _ c.condition-r.ensures c.if-r-s.false
+returns-else-r-s c = rw c.refused-else-r-s.ensures (condition_malformed _ _ c.if-s.true _ _ _ c.condition-r.ensures c.if-r-s.false)

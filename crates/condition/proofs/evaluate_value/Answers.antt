@@ -4,7 +4,7 @@ use Rattle.condition.proofs.Answering.{walkable, value_length, value_answer, val
 use Rattle.condition.proofs.evaluate_value.Goals as goal
 
 pub returns-else-s : goal.returns-else-s
-returns-else-s c = value_length _ _ c.if-s.false
+returns-else-s c = rw c.refused.ensures (value_length _ _ c.if-s.false)
 
 pub value-r-requires : goal.value-r-requires
 value-r-requires c = walkable c.args.s.now c.if-s.true
@@ -15,4 +15,4 @@ returns-then-r-s c = value_answer _ _ c.if-s.true _ _ _ c.value-r.ensures c.if-r
 
 pub returns-else-r-s : goal.returns-else-r-s
 unfolding banks
-returns-else-r-s c = value_malformed _ _ c.if-s.true _ _ _ c.value-r.ensures c.if-r-s.false
+returns-else-r-s c = rw c.refused-else-r-s.ensures (value_malformed _ _ c.if-s.true _ _ _ c.value-r.ensures c.if-r-s.false)

@@ -23,11 +23,6 @@ use Rattle.sheet.proofs.Readers.Loops.{byte_here, byte_past}
 use Rattle.sheet.proofs.Readers.Indexing.{sets_fit}
 use Rattle.sheet.proofs.Readers.Refusals.{texts_there, transitions_there, last_there}
 
--- a number that is not 0 is a refusal
-pub answer_refused : (n : ℕ) → (n ≡ 0 → ⊥) → refused n ≡ answer n
-answer_refused zero h = absurd (h refl)
-answer_refused (suc n) h = refl
-
 -- the index and the places
 module _ {T R : Type 0} (F : Layout T R) (s : List ℕ) (t : Tables) (f : Finds F s t) (n m : ℕ) (en : n ≡ conditions_in s) (em : m ≡ actions_in s) (b : Bool) (eb : b ≡ wide s) (x y : List ℕ) (ex : x ≡ fit 161 0 (starts (text_form b) n s t.conditions)) (ey : y ≡ fit 161 0 (starts (text_form false) m s t.actions)) where
   first_index : x ≡ (places_of F s).conditions

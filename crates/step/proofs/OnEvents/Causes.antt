@@ -11,8 +11,8 @@ use Rattle.sheet.specs.Reading.{is_bad}
 use Rattle.step.specs.declared.Cause.{Cause}
 use Rattle.step.specs.declared.Cause.TheVariants as cause
 use Rattle.step.specs.declared.Verdict.{Verdict}
-use Rattle.step.specs.declared.Outcome.{Outcome}
-use Rattle.step.specs.declared.Outcome.TheVariants.{Open, Judged}
+use Rattle.std.specs.Prelude as Prelude
+use Rattle.std.specs.Prelude.{Some, None}
 use Rattle.step.specs.Verdicts.{cause_of, placed, bad_state, carried, verdict, cause_state, cause_triple, if_there, entry_fits, verdict_fits, outcome_of, verdict_in}
 use Rattle.step.specs.Walk.{number_in}
 use Rattle.step.proofs.OnLists.Lists.{none_some}
@@ -69,25 +69,25 @@ module _ (bad triples main : ℕ) (v : Verdict) where
   fits_both q t e b f = rw (e, f)
 
 -- whether an outcome is, by its case
-module _ (bad triples main position : ℕ) (o : Outcome) where
-  pub fits_open : o ≡ Open → (b : Bool) → b ≡ is_bad bad main → not b ≡ verdict_fits bad triples main position (verdict_in o)
+module _ (bad triples main position : ℕ) (o : Prelude.Option Verdict) where
+  pub fits_open : o ≡ None → (b : Bool) → b ≡ is_bad bad main → not b ≡ verdict_fits bad triples main position (verdict_in o)
   fits_open e b f = rw (e, f)
 
-  pub fits_judged : (v : Verdict) → o ≡ Judged v → (b : Bool) → b ≡ cause_fits bad triples main v → (eqb v.position position && b) ≡ verdict_fits bad triples main position (verdict_in o)
+  pub fits_judged : (v : Verdict) → o ≡ Some v → (b : Bool) → b ≡ cause_fits bad triples main v → (eqb v.position position && b) ≡ verdict_fits bad triples main position (verdict_in o)
   fits_judged v e b f = rw (e, f)
 
 -- the outcome, by whether the state is bad and whether a triple fails
 module _ (bad position main lowest entry : ℕ) (b : Bool) (e : b ≡ is_bad bad main) where
   module _ (h : lowest < 256) where
-    pub outcome_both : b ≡ true → Judged (record { position = position; cause = cause.Both main lowest; entry = entry }) ≡ outcome_of (verdict bad position main (number_in lowest) entry)
+    pub outcome_both : b ≡ true → Some (record { position = position; cause = cause.Both main lowest; entry = entry }) ≡ outcome_of (verdict bad position main (number_in lowest) entry)
     outcome_both t = rw (lt-ltb lowest 256 h, ← e, t)
 
-    pub outcome_triple : b ≡ false → Judged (record { position = position; cause = cause.Triple lowest; entry = entry }) ≡ outcome_of (verdict bad position main (number_in lowest) entry)
+    pub outcome_triple : b ≡ false → Some (record { position = position; cause = cause.Triple lowest; entry = entry }) ≡ outcome_of (verdict bad position main (number_in lowest) entry)
     outcome_triple t = rw (lt-ltb lowest 256 h, ← e, t)
 
   module _ (h : 256 ≤ lowest) where
-    pub outcome_state : b ≡ true → Judged (record { position = position; cause = cause.BadState main; entry = 0 }) ≡ outcome_of (verdict bad position main (number_in lowest) entry)
+    pub outcome_state : b ≡ true → Some (record { position = position; cause = cause.BadState main; entry = 0 }) ≡ outcome_of (verdict bad position main (number_in lowest) entry)
     outcome_state t = rw (le-ltb lowest 256 h, ← e, t)
 
-    pub outcome_open : b ≡ false → Open ≡ outcome_of (verdict bad position main (number_in lowest) entry)
+    pub outcome_open : b ≡ false → None ≡ outcome_of (verdict bad position main (number_in lowest) entry)
     outcome_open t = rw (le-ltb lowest 256 h, ← e, t)

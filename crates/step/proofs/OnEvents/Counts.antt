@@ -17,8 +17,8 @@ use Rattle.sheet.specs.declared.Transition.{Transition}
 use Rattle.sheet.specs.Parts.{Common}
 use Rattle.sheet.specs.Reading.{lent_in, condition_in}
 use Rattle.sheet.specs.Log.{Event}
-use Rattle.sheet.specs.declared.Reading.{Reading}
-use Rattle.sheet.specs.declared.Reading.TheVariants.{Refused}
+use Rattle.std.specs.Prelude.{Result, Err}
+use Rattle.refusal.specs.declared.Refusal.{Refusal}
 use Rattle.sheet.specs.Answer.{reading_paper, answer}
 use Rattle.sheet.proofs.Answers.{answer_refused}
 use Rattle.step.specs.Lists.{first, keep, up_to}
@@ -33,7 +33,7 @@ refused_count zero k c = absurd (k refl)
 refused_count (suc n) k c = refl
 
 -- bytes that are not read
-pub unread_count : (n : ℕ) (r : Reading) → reading_paper r ≡ answer n → (m : ℕ) → r ≡ Refused m → (c : ℕ) → 0 ≡ unless_taken n 0 c
+pub unread_count : (n : ℕ) (r : Result (Unit {0}) Refusal) → reading_paper r ≡ answer n → (m : Refusal) → r ≡ Err m → (c : ℕ) → 0 ≡ unless_taken n 0 c
 unread_count n r e m h c =
     let (k, g, x) = answer_refused n r e m h in
     rw g refl

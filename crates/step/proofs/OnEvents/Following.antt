@@ -15,8 +15,8 @@ use Rattle.sheet.specs.Log.{Event, record_size, event_form, log_reading, records
 use Rattle.sheet.proofs.Accepted.{unless_iff}
 use Rattle.sheet.proofs.Tests.{and_iff, leb_iff, eqb_iff}
 use Rattle.step.specs.declared.Verdict.{Verdict}
-use Rattle.step.specs.declared.Outcome.{Outcome}
-use Rattle.step.specs.declared.Outcome.TheVariants.{Open, Judged}
+use Rattle.std.specs.Prelude as Prelude
+use Rattle.std.specs.Prelude.{Some, None}
 use Rattle.step.specs.declared.RunAnswer.TheVariants.{Violated}
 use Rattle.step.specs.Verdicts.{outcome_of, verdict_in}
 use Rattle.step.specs.Runs.{Offered, Ran, unless_judged, unless_refused_at, run_from, unless_ended, run_count_from}
@@ -50,7 +50,7 @@ pub record Engine (S W : Type 0) : Type 0 where
   pub sound : S → Bool
   pub pad : S → W
   pub view : W → S
-  pub outcome : W → Outcome
+  pub outcome : W → Prelude.Option Verdict
   pub ends : W → Ending
   pub ends_in : S → Ending
 
@@ -169,19 +169,19 @@ module _ {S W : Type 0} {E : Engine S W} (works : Works E) (P : ℕ) (log : List
           shown : E.outcome v ≡ outcome_of (E.verdict to)
           shown = ap E.outcome moved ∙ works.shows to
 
-          judged : (x : Verdict) → E.outcome v ≡ Judged x → E.verdict to ≡ some x
+          judged : (x : Verdict) → E.outcome v ≡ Some x → E.verdict to ≡ some x
           judged x k = sym (verdict_outcome (E.verdict to)) ∙ ap verdict_in (sym shown ∙ k)
 
-          unjudged : E.outcome v ≡ Open → E.verdict to ≡ none
+          unjudged : E.outcome v ≡ None → E.verdict to ≡ none
           unjudged k = sym (verdict_outcome (E.verdict to)) ∙ ap verdict_in (sym shown ∙ k)
 
           counts : n ≡ E.count g.σ e
           counts = c ∙ ap (λ (σ : S). E.count σ e) follow_seen
 
-          pub follow_violated : (x : Verdict) → E.outcome v ≡ Judged x → (run_paper (Violated x) ≡ ran_answer E.ends_in (E.run (events_of P log))) × (sum + n ≡ E.run_count (events_of P log))
+          pub follow_violated : (x : Verdict) → E.outcome v ≡ Some x → (run_paper (Violated x) ≡ ran_answer E.ends_in (E.run (events_of P log))) × (sum + n ≡ E.run_count (events_of P log))
           follow_violated x k = (ap (ran_answer E.ends_in) (rw (taken, judged x k) at unfolded), omega (arith, counts, rw (taken, judged x k) at counted))
 
-          pub follow_next : E.outcome v ≡ Open → (size : ℕ) → size ≡ record_size P → Following E P log v (i + 1) (sum + n) (at + size) end
+          pub follow_next : E.outcome v ≡ None → (size : ℕ) → size ≡ record_size P → Following E P log v (i + 1) (sum + n) (at + size) end
           follow_next k size b =
               rw b
               (record {

@@ -5,10 +5,9 @@ use mathlib.Core.Option.{Option, none, some}
 use mathlib.Core.List.{List, ◌∷◌}
 use Prim.Native.Nat.{ℕ, zero, suc}
 use Rattle.sheet.specs.declared.Header.{Header}
-use Rattle.sheet.specs.declared.Reading.{Reading}
-use Rattle.sheet.specs.declared.Reading.TheVariants as sheet
-use Rattle.sheet.specs.declared.LogReading.{LogReading}
-use Rattle.sheet.specs.declared.LogReading.TheVariants as log
+use Rattle.std.specs.Prelude.{Result, Ok, Err}
+use Rattle.refusal.specs.declared.Refusal.{Refusal}
+use Rattle.refusal.specs.Numbers.{number_of}
 use Rattle.sheet.specs.Bytes.{byte}
 use Rattle.sheet.specs.Reading.{or_else}
 use Rattle.sheet.specs.Log.{Event, log_reading, records_in}
@@ -33,26 +32,26 @@ refused_with_lem zero k w τ = absurd (k refl)
 refused_with_lem (suc n) k w τ = (refl, refl)
 
 -- bytes that are not read, and a log that is not
-module _ (n : ℕ) (r : Reading) (e : reading_paper r ≡ answer n) (m : ℕ) (h : r ≡ sheet.Refused m) where
-  pub unread_offer : {W : Type 0} (rest : ℕ) (w τ : W) → (declined m ≡ answer_of (offered (or_else n rest) w τ).answer) × (w ≡ (offered (or_else n rest) w τ).state)
+module _ (n : ℕ) (r : Result (Unit {0}) Refusal) (e : reading_paper r ≡ answer n) (m : Refusal) (h : r ≡ Err m) where
+  pub unread_offer : {W : Type 0} (rest : ℕ) (w τ : W) → (declined (number_of m) ≡ answer_of (offered (or_else n rest) w τ).answer) × (w ≡ (offered (or_else n rest) w τ).state)
   unread_offer rest w τ =
       let (k, g, x) = answer_refused n r e m h in
       rw g (ap declined x, refl)
 
-  pub unread_run : (rest : Ending) → refused m ≡ unless_refused n rest
+  pub unread_run : (rest : Ending) → refused (number_of m) ≡ unless_refused n rest
   unread_run rest =
       let (k, g, x) = answer_refused n r e m h in
       rw g (ap refused x)
 
 -- by the header that is lent
-module _ (s l : List ℕ) (h : Header) (eh : h ≡ header_of s) (r : LogReading) (er : log_paper r ≡ read_of (log_reading h.programs l) (records_in h.programs l)) where
+module _ (s l : List ℕ) (h : Header) (eh : h ≡ header_of s) (r : Result ℕ Refusal) (er : log_paper r ≡ read_of (log_reading h.programs l) (records_in h.programs l)) where
   answered : log_paper r ≡ read_of (log_reading (byte s 5) l) (records_in (byte s 5) l)
   answered = er ∙ ap (λ (x : Header). read_of (log_reading x.programs l) (records_in x.programs l)) eh
 
-  pub log_accepted : (m : ℕ) → r ≡ log.Records m → log_reading (byte s 5) l ≡ 0
+  pub log_accepted : (m : ℕ) → r ≡ Ok m → log_reading (byte s 5) l ≡ 0
   log_accepted m e = log_read (log_reading (byte s 5) l) (records_in (byte s 5) l) r answered m e
 
-  pub unlogged_run : (m : ℕ) → r ≡ log.Refused m → (rest : Ending) (count : ℕ) → (refused m ≡ unless_refused (log_reading (byte s 5) l) rest) × (0 ≡ unless_taken (log_reading (byte s 5) l) 0 count)
+  pub unlogged_run : (m : Refusal) → r ≡ Err m → (rest : Ending) (count : ℕ) → (refused (number_of m) ≡ unless_refused (log_reading (byte s 5) l) rest) × (0 ≡ unless_taken (log_reading (byte s 5) l) 0 count)
   unlogged_run m e rest count =
       let (j, g, x) = log_refused (log_reading (byte s 5) l) (records_in (byte s 5) l) r answered m e in
       rw g (ap refused x, refl)

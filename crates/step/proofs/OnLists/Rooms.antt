@@ -15,8 +15,8 @@ use Rattle.sheet.proofs.Tables.{and_parts, and_both, and_assoc}
 use Rattle.sheet.proofs.Tests.{and_iff, eqb_iff}
 use Rattle.step.specs.declared.Call.{Call}
 use Rattle.step.specs.declared.Verdict.{Verdict}
-use Rattle.step.specs.declared.Outcome.{Outcome}
-use Rattle.step.specs.declared.Outcome.TheVariants.{Open, Judged}
+use Rattle.std.specs.Prelude as Prelude
+use Rattle.std.specs.Prelude.{Some, None}
 use Rattle.step.specs.Calls as Calls
 use Rattle.step.specs.Verdicts.{outcome_of, verdict_in}
 use Rattle.step.specs.Padding.{unpad, zero_call, pad_call, clear, padded, is_zero_call}
@@ -294,9 +294,9 @@ tidy_calls P (suc n) [] = refl
 tidy_calls P (suc n) (c ∷ l) = and_assoc (padded 8 P c.kept) _ _ ∙ ap (λ (b : Bool). padded 8 P c.kept && b) (tidy_calls P n l) ∙ sym (and_assoc (padded 8 P c.kept) _ _)
 
 -- An outcome and the verdict in it.
-pub outcome_verdict : (o : Outcome) → outcome_of (verdict_in o) ≡ o
-outcome_verdict Open = refl
-outcome_verdict (Judged v) = refl
+pub outcome_verdict : (o : Prelude.Option Verdict) → outcome_of (verdict_in o) ≡ o
+outcome_verdict None = refl
+outcome_verdict (Some v) = refl
 
 pub verdict_outcome : (o : Option Verdict) → verdict_in (outcome_of o) ≡ o
 verdict_outcome none = refl

@@ -1,0 +1,2 @@
+-- What callers cite of the numbers.
+pub mod Numbers
