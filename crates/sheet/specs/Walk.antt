@@ -1,5 +1,5 @@
 -- What the private functions that walk over the tables promise.
-use Rattle.std.specs.Prelude.{Bool, false, not, ◌&&◌, ◌≡◌, List, ℕ, ◌+◌, ◌*◌, ◌≤◌, ltb, get_or, drop}
+use Rattle.std.specs.Prelude.{Bool, false, not, ◌&&◌, ◌≡◌, List, ℕ, ◌≤◌, ltb, get_or, drop}
 use Rattle.condition.specs.declared.Lent.{Lent}
 use Rattle.condition.specs.Tree.{condition_names, is_monitor, is_at_entry, Variable}
 use Rattle.condition.specs.Answer.{condition_which}
@@ -8,53 +8,33 @@ use Rattle.sheet.specs.declared.Triple.{Triple}
 use Rattle.sheet.specs.declared.Pair.{Pair}
 use Rattle.sheet.specs.declared.Template.{Template}
 use Rattle.sheet.specs.Parts.{Paired}
-use Rattle.sheet.specs.declared.walk.Walk.{Walk}
-use Rattle.sheet.specs.declared.walk.Texts.{Texts}
 use Rattle.sheet.specs.declared.walk.Tables.{Tables}
 use Rattle.sheet.specs.Table.{Form, table, after, every}
-use Rattle.sheet.specs.Decode.{wide, text_form, length_form, conditions_in, actions_in, transitions_in, last_in, conditions_at, actions_at, transitions_at, last_at}
+use Rattle.sheet.specs.Decode.{wide, text_form, length_form, pair_count_form, conditions_in, actions_in, transitions_in, last_in, conditions_at, actions_at, transitions_at, last_at}
 use Rattle.sheet.specs.declared.Counts.{Counts}
-use Rattle.sheet.specs.Reading.{Layout, between, most_bytes, transition_ranged, pair_ranged}
+use Rattle.sheet.specs.Reading.{between, most_bytes, transition_ranged, pair_ranged}
 
--- whether every length byte of a table is in range, and where the table ends
-abbrev pub walked : {A : Type 0} → Form A → Form ℕ → ℕ → ℕ → ℕ → List ℕ → ℕ → Walk
-walked F G low high n s at = record { ok = every (between low high) (table G n s at); end = after F n s at }
-
-pub record Walks {A : Type 0} (F : Form A) (G : Form ℕ) (low high n : ℕ) (s : List ℕ) (at most : ℕ) (r : Walk) : Type 0 where
-  pub all : r ≡ walked F G low high n s at
-  pub small : r.end ≤ at + most * n
-
--- where the tables of conditions, actions and transitions begin, and whether the length bytes of the first two are in range
+-- whether the length bytes of the conditions, of the actions and of a network's transitions are in range
 abbrev pub condition_lengths : List ℕ → Bool
 condition_lengths s = every (between 1 (most_bytes (wide s))) (table (length_form (wide s)) (conditions_in s) s (conditions_at s))
 
 abbrev pub action_lengths : List ℕ → Bool
 action_lengths s = every (between 0 (most_bytes false)) (table (length_form false) (actions_in s) s (actions_at s))
 
-pub record FindsTexts (s : List ℕ) (r : Texts) : Type 0 where
-  pub all : r ≡ record { conditions = conditions_at s; actions = actions_at s; transitions = transitions_at s; first = condition_lengths s; second = action_lengths s }
-  pub small_conditions : r.conditions ≤ 40000000
-  pub small_actions : r.actions ≤ 40000000
-  pub small_transitions : r.transitions ≤ 34000000
+abbrev pub pair_counts : List ℕ → Bool
+pair_counts s = every (between 0 4) (table pair_count_form (transitions_in s) s (transitions_at s))
 
--- where the tables of a layout begin and end, and whether every length byte is in range
-abbrev pub tables_of : {T R : Type 0} → Layout T R → List ℕ → Tables
-tables_of F s =
-    record {
-      conditions = conditions_at s;
-      actions = actions_at s;
-      transitions = transitions_at s;
-      last = last_at F.transition s;
-      end = after F.last (last_in s) s (last_at F.transition s);
-      ok = condition_lengths s && (action_lengths s && every (between 0 4) (table F.pair_counts (transitions_in s) s (transitions_at s)));
-    }
-
-pub record Finds {T R : Type 0} (F : Layout T R) (s : List ℕ) (r : Tables) : Type 0 where
-  pub all : r ≡ tables_of F s
-  pub small_conditions : r.conditions ≤ 40000000
-  pub small_actions : r.actions ≤ 40000000
-  pub small_transitions : r.transitions ≤ 40000000
-  pub small_last : r.last ≤ 40000000
+-- where the tables begin, the last two with records of these forms, and where the last ends
+pub record Finds {T R : Type 0} (F : Form T) (G : Form R) (s : List ℕ) (r : Tables) : Type 0 where
+  pub conditions : r.conditions ≡ conditions_at s
+  pub actions : r.actions ≡ actions_at s
+  pub transitions : r.transitions ≡ transitions_at s
+  pub last : r.last ≡ last_at F s
+  pub end : r.end ≡ after G (last_in s) s (last_at F s)
+  pub small_conditions : r.conditions ≤ 70000000
+  pub small_actions : r.actions ≤ 70000000
+  pub small_transitions : r.transitions ≤ 70000000
+  pub small_last : r.last ≤ 70000000
 
 -- whether a condition names a variable that p picks, by its number: the places where the conditions begin, and how many there are
 abbrev pub names_at : (Variable → Bool) → List ℕ → List ℕ → ℕ → Lent → ℕ → Bool

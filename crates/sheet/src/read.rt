@@ -2,7 +2,7 @@
 
 ghost use Rattle.std.specs.Prelude.{◌≡◌, ◌≤◌};
 ghost use Rattle.sheet.specs.Bytes.{byte};
-ghost use Rattle.sheet.specs.Decode.{common_of, conditions_at, actions_at};
+ghost use Rattle.sheet.specs.Decode.{common_of, conditions_at, actions_at, transition_form, triple_form, paired_form, template_form};
 ghost use Rattle.sheet.specs.Reading.{sheet_layout, network_layout, lent_in, counts_of, counted, formed, ranged, roled, transitions_of, last_of, reading};
 ghost use Rattle.sheet.specs.Answer.{reading_paper, answer};
 ghost use Rattle.sheet.specs.Walk.{Finds};
@@ -37,7 +37,7 @@ fn counts(s: &[u8]) -> Counts
 }
 
 fn texts_formed(s: &[u8], conditions: usize, actions: usize) -> bool
-    requires { (conditions ≡ conditions_at s.now) × (actions ≡ actions_at s.now) × (conditions ≤ 40000000) × (actions ≤ 40000000) }
+    requires { (conditions ≡ conditions_at s.now) × (actions ≡ actions_at s.now) × (conditions ≤ 70000000) × (actions ≤ 70000000) }
     ensures { result ≡ formed (common_of s.now) }
 {
     let l = lent(s);
@@ -46,7 +46,7 @@ fn texts_formed(s: &[u8], conditions: usize, actions: usize) -> bool
 }
 
 fn sheet_ranged(s: &[u8], t: Tables) -> bool
-    requires { Finds sheet_layout s.now t }
+    requires { Finds transition_form triple_form s.now t }
     ensures { result ≡ ranged sheet_layout (common_of s.now) (transitions_of sheet_layout s.now) (last_of sheet_layout s.now) }
 {
     let c = counts(s);
@@ -55,7 +55,7 @@ fn sheet_ranged(s: &[u8], t: Tables) -> bool
 }
 
 fn network_ranged(s: &[u8], t: Tables) -> bool
-    requires { Finds network_layout s.now t }
+    requires { Finds paired_form template_form s.now t }
     ensures { result ≡ ranged network_layout (common_of s.now) (transitions_of network_layout s.now) (last_of network_layout s.now) }
 {
     let c = counts(s);
@@ -65,7 +65,7 @@ fn network_ranged(s: &[u8], t: Tables) -> bool
 }
 
 fn sheet_roled(s: &[u8], t: Tables) -> bool
-    requires { (Finds sheet_layout s.now t) × (byte s.now 10 ≤ 161) }
+    requires { (Finds transition_form triple_form s.now t) × (byte s.now 10 ≤ 161) }
     ensures { result ≡ roled sheet_layout (common_of s.now) (transitions_of sheet_layout s.now) (last_of sheet_layout s.now) }
 {
     let l = lent(s);
@@ -77,7 +77,7 @@ fn sheet_roled(s: &[u8], t: Tables) -> bool
 }
 
 fn network_roled(s: &[u8], t: Tables) -> bool
-    requires { (Finds network_layout s.now t) × (byte s.now 10 ≤ 161) }
+    requires { (Finds paired_form template_form s.now t) × (byte s.now 10 ≤ 161) }
     ensures { result ≡ roled network_layout (common_of s.now) (transitions_of network_layout s.now) (last_of network_layout s.now) }
 {
     let l = lent(s);
@@ -101,7 +101,7 @@ pub(crate) fn sheet(s: &[u8]) -> Result<(), Refusal>
         return Err(Refusal::Counts);
     }
     let t = walk::sheet_tables(s);
-    if t.ok & (t.end == s.len()) {} else {
+    if walk::sheet_tabled(s, t) {} else {
         return Err(Refusal::Lengths);
     }
     if texts_formed(s, t.conditions, t.actions) {} else {
@@ -146,7 +146,7 @@ pub(crate) fn network(s: &[u8]) -> Result<(), Refusal>
         return Err(Refusal::Counts);
     }
     let t = walk::network_tables(s);
-    if t.ok & (t.end == s.len()) {} else {
+    if walk::network_tabled(s, t) {} else {
         return Err(Refusal::Lengths);
     }
     if texts_formed(s, t.conditions, t.actions) {} else {

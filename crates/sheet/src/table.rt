@@ -6,8 +6,8 @@ ghost use Rattle.sheet.specs.declared.Template.{Template};
 ghost use Rattle.sheet.specs.declared.Transition.{Transition};
 ghost use Rattle.sheet.specs.declared.Triple.{Triple};
 ghost use Rattle.sheet.specs.Parts.{Paired};
-ghost use Rattle.sheet.specs.Table.{Form, table, every};
-ghost use Rattle.sheet.specs.Decode.{text_form, transition_form, triple_form, pair_form, paired_form, template_form};
+ghost use Rattle.sheet.specs.Table.{Form, table, after, every};
+ghost use Rattle.sheet.specs.Decode.{text_form, length_form, pair_count_form, transition_form, triple_form, pair_form, paired_form, template_form};
 
 use crate::bytes::{number, text_size};
 
@@ -39,6 +39,22 @@ impl Records for Texts {
     }
 }
 
+// The lengths of conditions or actions, each with the bytes behind it.
+#[derive(Clone, Copy)]
+pub(crate) struct Lengths {
+    pub wide: bool,
+}
+
+impl Records for Lengths {
+    ghost Value = { ℕ };
+
+    ghost form = { λ t. length_form t.wide };
+
+    fn size(self, s: &[u8], at: usize) -> usize {
+        text_size(s, at, self.wide)
+    }
+}
+
 #[derive(Clone, Copy)]
 pub(crate) struct Transitions;
 
@@ -63,6 +79,20 @@ impl Records for PairedTransitions {
 
     fn size(self, s: &[u8], at: usize) -> usize {
         7 + 2 * number(s, at + 6)
+    }
+}
+
+// How many pairs each transition has.
+#[derive(Clone, Copy)]
+pub(crate) struct PairCounts;
+
+impl Records for PairCounts {
+    ghost Value = { ℕ };
+
+    ghost form = { λ _. pair_count_form };
+
+    fn size(self, s: &[u8], at: usize) -> usize {
+        PairedTransitions.size(s, at)
     }
 }
 
@@ -125,4 +155,17 @@ pub(crate) fn every<R: Records, F: Fn(usize) -> bool>(
         place += records.size(s, place);
     }
     true
+}
+
+// The place behind a table.
+pub(crate) fn after<R: Records>(records: R, s: &[u8], at: usize, n: usize) -> usize
+    requires { (at ≤ 200000000) × (n ≤ 255) }
+    ensures place { result ≡ after (R.form records) n s.now at }
+    ensures small { result ≤ at + 65537 * n }
+{
+    let mut place = at;
+    for _ in 0..n {
+        place += records.size(s, place);
+    }
+    place
 }

@@ -2,7 +2,7 @@
 use mathlib.Core.Path.{◌≡◌, refl, subst, ◌∙◌}
 use mathlib.Core.Bool.{Bool, true, false, ◌&&◌}
 use mathlib.Core.List.{List}
-use Prim.Native.Nat.{ℕ, zero, suc, ◌+◌, ◌-◌, ◌*◌, ◌/◌, ◌%◌, ◌≤◌, ◌<◌}
+use Prim.Native.Nat.{ℕ, suc, ◌+◌, ◌-◌, ◌*◌, ◌/◌, ◌%◌, ◌≤◌, ◌<◌}
 use native.Mathlib.Nat.{sub-zero}
 use native.Mathlib.Numerals.{add-one}
 use native.Mathlib.Omega.{arith}
@@ -16,23 +16,22 @@ use Rattle.sheet.specs.Table.{records, table, starts, fit}
 use Rattle.sheet.specs.Decode.{word_form, wide, text_form, conditions_in, actions_in}
 use Rattle.sheet.specs.Reading.{Layout}
 use Rattle.sheet.specs.Log.{record_size, log_reading, records_in}
-use Rattle.sheet.specs.Answer.{accepted, refused, read_of, answer, places_of}
+use Rattle.sheet.specs.Answer.{accepted, refused, read_of, places_of}
 use Rattle.sheet.specs.Walk.{Finds}
 use Rattle.sheet.proofs.Tables.{and_parts, table_step}
 use Rattle.sheet.proofs.Readers.Loops.{byte_here, byte_past}
 use Rattle.sheet.proofs.Readers.Indexing.{sets_fit}
-use Rattle.sheet.proofs.Readers.Refusals.{texts_there, transitions_there, last_there}
 
 -- the index and the places
-module _ {T R : Type 0} (F : Layout T R) (s : List ℕ) (t : Tables) (f : Finds F s t) (n m : ℕ) (en : n ≡ conditions_in s) (em : m ≡ actions_in s) (b : Bool) (eb : b ≡ wide s) (x y : List ℕ) (ex : x ≡ fit 161 0 (starts (text_form b) n s t.conditions)) (ey : y ≡ fit 161 0 (starts (text_form false) m s t.actions)) where
+module _ {T R : Type 0} (F : Layout T R) (s : List ℕ) (t : Tables) (f : Finds F.transition F.last s t) (n m : ℕ) (en : n ≡ conditions_in s) (em : m ≡ actions_in s) (b : Bool) (eb : b ≡ wide s) (x y : List ℕ) (ex : x ≡ fit 161 0 (starts (text_form b) n s t.conditions)) (ey : y ≡ fit 161 0 (starts (text_form false) m s t.actions)) where
   first_index : x ≡ (places_of F s).conditions
-  first_index = ex ∙ rw (eb, en, (texts_there F s t f).0)
+  first_index = ex ∙ rw (eb, en, f.conditions)
 
   second_index : y ≡ (places_of F s).actions
-  second_index = ey ∙ rw (em, (texts_there F s t f).1)
+  second_index = ey ∙ rw (em, f.actions)
 
   pub places_found : record { conditions = x; actions = y; transitions = t.transitions; last = t.last } ≡ places_of F s
-  places_found = λ i. record { conditions = first_index i; actions = second_index i; transitions = transitions_there F s t f i; last = last_there F s t f i }
+  places_found = λ i. record { conditions = first_index i; actions = second_index i; transitions = f.transitions i; last = f.last i }
 
 module _ (P : ℕ) (s : List ℕ) (w v l : ℕ) (ew : w ≡ word s 0) (ev : v ≡ byte s 4) (el : l ≡ byte s 5) where
   pub log_16 : (leb 6 (length s) && (eqb w (length s) && eqb v 1)) ≡ false → refused 16 ≡ read_of (log_reading P s) (records_in P s)

@@ -76,3 +76,15 @@ module _ {A : Type 0} (p : A → Bool) (F : Form A) (n i : ℕ) (s : List ℕ) (
   every_ends h =
       let m : n - i ≡ 0 = omega arith in
       rw m at e
+
+-- A loop to the place behind a table, the same way.
+module _ {A : Type 0} (F : Form A) (n i : ℕ) (s : List ℕ) (at place : ℕ) (e : after F (n - i) s place ≡ after F n s at) where
+  pub after_goes : i < n → (k : ℕ) → k ≡ F.size (drop place s) → after F (n - (i + 1)) s (place + k) ≡ after F n s at
+  after_goes h k z =
+      let m : n - i ≡ suc (n - (i + 1)) = omega arith in
+      rw z (sym (after_step F (n - (i + 1)) s place) ∙ rw m at e)
+
+  pub after_ends : n ≤ i → place ≡ after F n s at
+  after_ends h =
+      let m : n - i ≡ 0 = omega arith in
+      sym (after_none F s place) ∙ rw m at e

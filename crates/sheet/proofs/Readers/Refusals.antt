@@ -22,7 +22,7 @@ use Rattle.sheet.specs.Table.{table, starts, fit, every}
 use Rattle.sheet.specs.Parts.{Paired}
 use Rattle.sheet.specs.Decode.{wide, text_form, transition_form, triple_form, paired_form, template_form, conditions_in, actions_in, transitions_in, last_in, last_at, conditions_at, actions_at, transitions_at, common_of}
 use Rattle.sheet.specs.Reading.{together, transition_ranged, triple_ranged, template_ranged, counts_of, counts_hold, Layout, Use, guard, precondition, postcondition, between, lent_in, condition_in, names_entry, used_well, whole, counted, tabled, formed, ranged, roled, transitions_of, last_of, reading, sheet_layout, network_layout}
-use Rattle.sheet.specs.Walk.{paired_ranged, within, Finds, condition_lengths, action_lengths, tables_of, names_at, guard_suits, triple_suits, paired_suits, template_suits}
+use Rattle.sheet.specs.Walk.{paired_ranged, within, Finds, condition_lengths, action_lengths, names_at, guard_suits, triple_suits, paired_suits, template_suits}
 use Rattle.sheet.proofs.Tests.{and_iff, leb_iff}
 use Rattle.sheet.proofs.Tables.{and_parts, and_both, and_assoc, and_true, length_records, indexed, every_same, every_map, every_weaker}
 
@@ -72,14 +72,10 @@ module _ {T R : Type 0} (F : Layout T R) (s : List ℕ) where
                 refuse_none e = rw (a, b, c, d, f, g, h, e)
 
 -- 4 from the tables that were found
-pub tabled_found : {T R : Type 0} (F : Layout T R) (s : List ℕ) (t : Tables) → t ≡ tables_of F s → (t.ok && eqb t.end (length s)) ≡ tabled F s
-unfolding tabled
-tabled_found F s t e =
-    let pairs = every (between 0 4) (table F.pair_counts (transitions_in s) s (transitions_at s)) in
-    let ends = eqb (tables_of F s).end (length s) in
-    ap (λ (u : Tables). u.ok && eqb u.end (length s)) e
-    ∙ and_assoc (condition_lengths s) (action_lengths s && pairs) ends
-    ∙ ap (λ (b : Bool). condition_lengths s && b) (and_assoc (action_lengths s) pairs ends)
+module _ {T R : Type 0} (F : Layout T R) (s : List ℕ) (t : Tables) (f : Finds F.transition F.last s t) (lengths pairs : Bool) (el : lengths ≡ (condition_lengths s && action_lengths s)) (ep : pairs ≡ every (between 0 4) (table F.pair_counts (transitions_in s) s (transitions_at s))) where
+  pub tabled_found : (lengths && (pairs && eqb t.end (length s))) ≡ tabled F s
+  unfolding tabled
+  tabled_found = rw (el, ep, f.end) (and_assoc (condition_lengths s) (action_lengths s) _)
 
 -- a condition by its number, through the index
 names_nothing : (p : Variable → Bool) (L : Lent) → condition_which (λ c. condition_names c p) L (0 ∷ []) ≡ false
@@ -183,20 +179,6 @@ module _ (s : List ℕ) (few : byte s 10 ≤ 161) (l : Lent) (el : l ≡ lent_in
   pub network_roled_found : b ≡ last_at paired_form s → x ≡ every (paired_suits s index c l) (table paired_form n s a) → y ≡ every (template_suits s index c l) (table template_form m s b) → (w && (x && y)) ≡ roled network_layout (common_of s) (transitions_of network_layout s) (last_of network_layout s)
   unfolding roled
   network_roled_found eb ex ey = rw (free_found, ex, ey, index_found, ec, el, en, ea, em, eb, paired_well s few (transitions_of network_layout s), templates_well s few (last_of network_layout s))
-
--- the places that were found
-module _ {T R : Type 0} (F : Layout T R) (s : List ℕ) (t : Tables) (f : Finds F s t) where
-  pub texts_there : (t.conditions ≡ conditions_at s) × (t.actions ≡ actions_at s) × (t.conditions ≤ 40000000) × (t.actions ≤ 40000000)
-  texts_there = (ap (λ (u : Tables). u.conditions) f.all, ap (λ (u : Tables). u.actions) f.all, f.small_conditions, f.small_actions)
-
-  pub transitions_there : t.transitions ≡ transitions_at s
-  transitions_there = ap (λ (u : Tables). u.transitions) f.all
-
-  pub last_there : t.last ≡ last_at F.transition s
-  last_there = ap (λ (u : Tables). u.last) f.all
-
-  pub tabled_is : (b : Bool) → (t.ok && eqb t.end (length s)) ≡ b → tabled F s ≡ b
-  tabled_is b e = sym (tabled_found F s t f.all) ∙ e
 
 pub counted_is : {T R : Type 0} (F : Layout T R) (s : List ℕ) (b : Bool) → counts_hold (F.conditions (wide s)) F.actions F.transitions s ≡ b → counted F s ≡ b
 unfolding counted

@@ -1,5 +1,5 @@
-use Rattle.std.proofs.Common.{◌≡◌, ◌≤◌, Bool, ℕ, List, drop, ◌+◌, ◌-◌, ◌*◌, ◌<◌, length}
-use Rattle.sheet.specs.Table.{Form, table, every}
+use Rattle.std.proofs.Common.{◌≡◌, ◌≤◌, Bool, ℕ, drop, ◌+◌, ◌-◌, ◌*◌}
+use Rattle.sheet.specs.Table.{table, every}
 use Rattle.sheet.proofs.table.every.Given as goal
 
 -- The test of the records still to come is the test of them all, and the place has gone on by at most 65537 bytes a record.
