@@ -8,11 +8,12 @@ use Rattle.sheet.specs.declared.Triple.{Triple}
 use Rattle.sheet.specs.declared.Pair.{Pair}
 use Rattle.sheet.specs.declared.Template.{Template}
 use Rattle.sheet.specs.Parts.{Paired}
+use Rattle.sheet.specs.declared.index.Conditions.{Conditions}
 use Rattle.sheet.specs.declared.walk.Tables.{Tables}
-use Rattle.sheet.specs.Table.{Form, table, after, every}
-use Rattle.sheet.specs.Decode.{wide, text_form, length_form, pair_count_form, conditions_in, actions_in, transitions_in, last_in, conditions_at, actions_at, transitions_at, last_at}
+use Rattle.sheet.specs.Table.{Form, table, after, starts, fit, every}
+use Rattle.sheet.specs.Decode.{wide, text_form, length_form, pair_count_form, conditions_in, actions_in, transitions_in, last_in, conditions_at, actions_at, transitions_at, last_at, common_of}
 use Rattle.sheet.specs.declared.Counts.{Counts}
-use Rattle.sheet.specs.Reading.{between, most_bytes, transition_ranged, pair_ranged}
+use Rattle.sheet.specs.Reading.{between, most_bytes, lent_in, transition_ranged, pair_ranged}
 
 -- whether the length bytes of the conditions, of the actions and of a network's transitions are in range
 abbrev pub condition_lengths : List ℕ → Bool
@@ -36,24 +37,34 @@ pub record Finds {T R : Type 0} (F : Form T) (G : Form R) (s : List ℕ) (r : Ta
   pub small_transitions : r.transitions ≤ 70000000
   pub small_last : r.last ≤ 70000000
 
+-- the conditions by their number, of which the first begins at a place
+pub record Numbered (s : List ℕ) (at : ℕ) (C : Conditions) : Type 0 where
+  pub bytes : C.s.now ≡ s
+  pub index : C.index ≡ fit 161 0 (starts (text_form (wide s)) (conditions_in s) s at)
+  pub count : C.count ≡ conditions_in s
+  pub lent : C.lent ≡ lent_in (common_of s)
+
 -- whether a condition names a variable that p picks, by its number: the places where the conditions begin, and how many there are
 abbrev pub names_at : (Variable → Bool) → List ℕ → List ℕ → ℕ → Lent → ℕ → Bool
 names_at p s index n L i = ltb i n && condition_which (λ c. condition_names c p) L ((text_form (wide s)).value (drop (get_or index i 0) s))
 
-abbrev pub guard_suits : List ℕ → List ℕ → ℕ → Lent → Transition → Bool
-guard_suits s index n L t = not (names_at is_at_entry s index n L t.condition)
+abbrev pub names_in : (Variable → Bool) → Conditions → ℕ → Bool
+names_in p C i = names_at p C.s.now C.index C.count C.lent i
 
-abbrev pub triple_suits : List ℕ → List ℕ → ℕ → Lent → Triple → Bool
-triple_suits s index n L t = not (names_at is_at_entry s index n L t.precondition) && not (names_at is_monitor s index n L t.postcondition)
+abbrev pub guard_suits : Conditions → Transition → Bool
+guard_suits C t = not (names_in is_at_entry C t.condition)
 
-abbrev pub pair_suits : List ℕ → List ℕ → ℕ → Lent → Pair → Bool
-pair_suits s index n L p = not (names_at is_at_entry s index n L p.condition)
+abbrev pub triple_suits : Conditions → Triple → Bool
+triple_suits C t = not (names_in is_at_entry C t.precondition) && not (names_in is_monitor C t.postcondition)
 
-abbrev pub paired_suits : List ℕ → List ℕ → ℕ → Lent → Paired → Bool
-paired_suits s index n L t = guard_suits s index n L t.base && every (pair_suits s index n L) t.pairs
+abbrev pub pair_suits : Conditions → Pair → Bool
+pair_suits C p = not (names_in is_at_entry C p.condition)
 
-abbrev pub template_suits : List ℕ → List ℕ → ℕ → Lent → Template → Bool
-template_suits s index n L t = not (names_at is_monitor s index n L t.postcondition)
+abbrev pub paired_suits : Conditions → Paired → Bool
+paired_suits C t = guard_suits C t.base && every (pair_suits C) t.pairs
+
+abbrev pub template_suits : Conditions → Template → Bool
+template_suits C t = not (names_in is_monitor C t.postcondition)
 
 -- a triple of one of sixteen states and one of sixteen units, which 3 and 6 leave
 abbrev pub within : Triple → Bool

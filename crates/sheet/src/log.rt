@@ -6,7 +6,7 @@ ghost use Rattle.sheet.specs.Decode.{word_form};
 ghost use Rattle.sheet.specs.Log.{log_reading, records_in};
 ghost use Rattle.sheet.specs.Answer.{log_paper, read_of, record_of};
 
-use crate::bytes::{byte, half, number, place};
+use crate::bytes::{byte, half, number};
 use crate::{Record, bytes};
 use refusal::Refusal;
 
@@ -14,7 +14,7 @@ pub(crate) fn read(s: &[u8], programs: usize) -> Result<usize, Refusal>
     requires { programs ≤ 255 }
     ensures { log_paper result ≡ read_of (log_reading programs s.now) (records_in programs s.now) }
 {
-    let said = place(bytes::word(s, 0));
+    let said = bytes::word(s, 0) as usize;
     let version = number(s, 4);
     let lent = number(s, 5);
     if (6 <= s.len()) & ((said == s.len()) & (version == 1)) {} else {

@@ -6,7 +6,7 @@ ghost use Rattle.sheet.specs.Decode.{transition_form, triple_form, pair_form, pa
 ghost use Rattle.sheet.specs.Reading.{transition_ranged, triple_ranged, pair_ranged, template_ranged};
 ghost use Rattle.sheet.specs.Walk.{paired_ranged};
 
-use crate::bytes::{byte, number, wide};
+use crate::bytes::{byte, number};
 use crate::records::{pair, template, transition, triple};
 use crate::table::{PairedTransitions, Pairs, Templates, Transitions, Triples, every};
 use crate::{Counts, Pair, Template, Transition, Triple};
@@ -39,7 +39,7 @@ fn pair_ranged(s: &[u8], p: Pair, t: Transition, n: Counts, last: usize, templat
     requires { last ≤ 100000000 }
     ensures { result ≡ pair_ranged n (table template_form templates s.now last) t p }
 {
-    let k = wide(p.template);
+    let k = usize::from(p.template);
     let unit = byte(s, last + k * 2);
     (t.kind == 0) & ((p.condition < n.conditions) & ((k < templates) & (unit == t.unit)))
 }

@@ -5,13 +5,13 @@ ghost use Rattle.sheet.specs.Bytes.{byte};
 ghost use Rattle.sheet.specs.Decode.{common_of, conditions_at, actions_at, transition_form, triple_form, paired_form, template_form};
 ghost use Rattle.sheet.specs.Reading.{sheet_layout, network_layout, lent_in, counts_of, counted, formed, ranged, roled, transitions_of, last_of, reading};
 ghost use Rattle.sheet.specs.Answer.{reading_paper, answer};
-ghost use Rattle.sheet.specs.Walk.{Finds};
+ghost use Rattle.sheet.specs.Walk.{Finds, Numbered};
 
 use crate::bytes::{byte, has_wide, number};
-use crate::index::index;
+use crate::index::{Conditions, index};
 use crate::spread::spread;
 use crate::walk::Tables;
-use crate::{Counts, formed, head, ranged, roles, walk};
+use crate::{Counts, formed, head, ranged, walk};
 use condition::Lent;
 use refusal::Refusal;
 
@@ -64,28 +64,38 @@ fn network_ranged(s: &[u8], t: Tables) -> bool
         & ranged::templates_ranged(s, t.last, templates, c)
 }
 
+// The conditions by their number.
+fn conditions(s: &[u8], at: usize) -> Conditions<'_>
+    requires { (at ≤ 70000000) × (byte s.now 10 ≤ 161) }
+    ensures { Numbered s.now at result }
+{
+    let count = number(s, 10);
+    Conditions {
+        s,
+        index: index(s, at, count, has_wide(s)),
+        count,
+        lent: lent(s),
+    }
+}
+
 fn sheet_roled(s: &[u8], t: Tables) -> bool
     requires { (Finds transition_form triple_form s.now t) × (byte s.now 10 ≤ 161) }
     ensures { result ≡ roled sheet_layout (common_of s.now) (transitions_of sheet_layout s.now) (last_of sheet_layout s.now) }
 {
-    let l = lent(s);
-    let n = number(s, 10);
-    let i = index(s, t.conditions, n, has_wide(s));
-    formed::actions_free(s, t.actions, number(s, 11), l)
-        & (roles::guards_suit(s, t.transitions, number(s, 12), &i, n, l)
-            & roles::triples_suit(s, t.last, number(s, 13), &i, n, l))
+    let conditions = conditions(s, t.conditions);
+    formed::actions_free(s, t.actions, number(s, 11), conditions.lent)
+        & (conditions.guards_suit(t.transitions, number(s, 12))
+            & conditions.triples_suit(t.last, number(s, 13)))
 }
 
 fn network_roled(s: &[u8], t: Tables) -> bool
     requires { (Finds paired_form template_form s.now t) × (byte s.now 10 ≤ 161) }
     ensures { result ≡ roled network_layout (common_of s.now) (transitions_of network_layout s.now) (last_of network_layout s.now) }
 {
-    let l = lent(s);
-    let n = number(s, 10);
-    let i = index(s, t.conditions, n, has_wide(s));
-    formed::actions_free(s, t.actions, number(s, 11), l)
-        & (roles::paired_suit(s, t.transitions, number(s, 12), &i, n, l)
-            & roles::templates_suit(s, t.last, number(s, 13), &i, n, l))
+    let conditions = conditions(s, t.conditions);
+    formed::actions_free(s, t.actions, number(s, 11), conditions.lent)
+        & (conditions.paired_suit(t.transitions, number(s, 12))
+            & conditions.templates_suit(t.last, number(s, 13)))
 }
 
 pub(crate) fn sheet(s: &[u8]) -> Result<(), Refusal>

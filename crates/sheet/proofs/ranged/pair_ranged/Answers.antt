@@ -5,4 +5,4 @@ use Rattle.sheet.proofs.ranged.pair_ranged.Goals as goal
 pub returns : goal.returns
 returns c =
     let a = c.args in
-    pair_found a.s.now a.p a.t a.n a.last a.templates _ _ c.wide-k.ensures.0 c.byte-unit.ensures
+    pair_found a.s.now a.p a.t a.n a.last a.templates _ _ c.from-k.ensures c.byte-unit.ensures
