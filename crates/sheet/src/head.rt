@@ -7,6 +7,7 @@ ghost use Rattle.sheet.specs.Reading.{is_bad, whole, counts_hold, start_holds, b
 use crate::bytes::{byte, half, number, shifted};
 
 // 1 does not apply: the bytes say how many they are.
+#[tactic(auto, unfolding(crate::specs::Reading::whole))]
 pub(crate) fn whole(s: &[u8]) -> bool
     ensures { result ≡ whole s.now }
 {

@@ -4,7 +4,7 @@ ghost use Rattle.std.specs.Prelude.{◌≡◌, ◌≤◌};
 ghost use Rattle.sheet.specs.Table.{starts, fit};
 ghost use Rattle.sheet.specs.Decode.{text_form};
 
-use crate::bytes::text_size;
+use crate::table::{Texts, numbers};
 use condition::Lent;
 
 // The conditions of a sheet or network: where each begins, how many there are, and what they may
@@ -22,15 +22,5 @@ pub(crate) fn index(s: &[u8], at: usize, n: usize, w: bool) -> [u32; 161]
     requires { (at ≤ 100000000) × (n ≤ 255) }
     ensures { result ≡ fit 161 0 (starts (text_form w) n s.now at) }
 {
-    let mut out = [0u32; 161];
-    let mut i = 0;
-    let mut place = at;
-    while i < n {
-        if i < 161 {
-            out[i] = place as u32;
-        }
-        place = place + text_size(s, place, w);
-        i += 1;
-    }
-    out
+    numbers(Texts { wide: w }, s, at, n, |place| place as u32)
 }

@@ -11,6 +11,7 @@ use crate::records::{pair, template, transition, triple};
 use crate::table::{PairedTransitions, Pairs, Templates, Transitions, Triples, every};
 use crate::{Counts, Pair, Template, Transition, Triple};
 
+#[tactic(auto, unfolding(crate::specs::Reading::transition_ranged))]
 fn transition_ranged(t: Transition, n: Counts) -> bool
     ensures { result ≡ transition_ranged n t }
 {
@@ -20,6 +21,7 @@ fn transition_ranged(t: Transition, n: Counts) -> bool
                 & ((t.condition < n.conditions) & ((t.action < n.actions) & (t.to < n.states)))))
 }
 
+#[tactic(auto, unfolding(crate::specs::Reading::triple_ranged))]
 fn triple_ranged(t: Triple, n: Counts) -> bool
     ensures { result ≡ triple_ranged n t }
 {
@@ -28,6 +30,7 @@ fn triple_ranged(t: Triple, n: Counts) -> bool
             & ((t.precondition < n.conditions) & (t.postcondition < n.conditions)))
 }
 
+#[tactic(auto, unfolding(crate::specs::Reading::template_ranged))]
 fn template_ranged(t: Template, n: Counts) -> bool
     ensures { result ≡ template_ranged n t }
 {

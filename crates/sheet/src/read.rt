@@ -15,6 +15,7 @@ use crate::{Counts, formed, head, ranged, walk};
 use condition::Lent;
 use refusal::Refusal;
 
+#[tactic(auto, unfolding(crate::specs::Decode::common_of))]
 fn lent(s: &[u8]) -> Lent
     ensures { result ≡ lent_in (common_of s.now) }
 {
@@ -25,6 +26,7 @@ fn lent(s: &[u8]) -> Lent
     }
 }
 
+#[tactic(auto, using(crate::proofs::Tables::length_records), unfolding(crate::specs::Decode::common_of))]
 fn counts(s: &[u8]) -> Counts
     ensures { result ≡ counts_of (common_of s.now) }
 {
@@ -137,6 +139,7 @@ fn most_conditions(w: bool) -> usize
     if w { 161 } else { 65 }
 }
 
+#[tactic(auto, unfolding(crate::specs::Reading::counted))]
 fn network_counts(s: &[u8]) -> bool
     ensures { result ≡ counted network_layout s.now }
 {

@@ -1,13 +1,13 @@
 // Tables of records that stand one behind the other.
 
-ghost use Rattle.std.specs.Prelude.{◌≡◌, ◌≤◌, ◌+◌, ◌*◌, Bool, ℕ, List, drop};
+ghost use Rattle.std.specs.Prelude.{◌≡◌, ◌≤◌, ◌+◌, ◌*◌, Bool, ℕ, List, map, drop};
 ghost use Rattle.sheet.specs.declared.Pair.{Pair};
 ghost use Rattle.sheet.specs.declared.Template.{Template};
 ghost use Rattle.sheet.specs.declared.Transition.{Transition};
 ghost use Rattle.sheet.specs.declared.Triple.{Triple};
 ghost use Rattle.sheet.specs.Parts.{Paired};
-ghost use Rattle.sheet.specs.Table.{Form, table, after, every};
-ghost use Rattle.sheet.specs.Decode.{text_form, length_form, pair_count_form, transition_form, triple_form, pair_form, paired_form, template_form};
+ghost use Rattle.sheet.specs.Table.{Form, table, after, starts, fit, every};
+ghost use Rattle.sheet.specs.Decode.{word_form, text_form, length_form, pair_count_form, transition_form, triple_form, pair_form, paired_form, template_form};
 
 use crate::bytes::{number, text_size};
 
@@ -52,6 +52,22 @@ impl Records for Lengths {
 
     fn size(self, s: &[u8], at: usize) -> usize {
         text_size(s, at, self.wide)
+    }
+}
+
+// The bytes of a word.
+const WORD: usize = 4;
+
+#[derive(Clone, Copy)]
+pub(crate) struct Words;
+
+impl Records for Words {
+    ghost Value = { ℕ };
+
+    ghost form = { λ _. word_form };
+
+    fn size(self, _s: &[u8], _at: usize) -> usize {
+        WORD
     }
 }
 
@@ -168,4 +184,26 @@ pub(crate) fn after<R: Records>(records: R, s: &[u8], at: usize, n: usize) -> us
         place += records.size(s, place);
     }
     place
+}
+
+// A number of each of n records, given the record's place: as many as there is room for, and zeros
+// behind them.
+pub(crate) fn numbers<R: Records, F: Fn(usize) -> u32, const W: usize>(
+    records: R,
+    s: &[u8],
+    at: usize,
+    n: usize,
+    number: F,
+) -> [u32; W]
+    requires small { (at ≤ 7000000000) × (n ≤ 255) }
+    requires callable { (a : ℕ) → a ≤ at + 65537 * n → F.pre number a }
+    ensures { (f : ℕ → ℕ) → ((a b : ℕ) → F.post number a b → b ≡ f a) → result ≡ fit W 0 (map f (starts (R.form records) n s.now at)) }
+{
+    let mut out = [0; W];
+    let mut place = at;
+    for i in 0..n.min(W) {
+        out[i] = number(place);
+        place += records.size(s, place);
+    }
+    out
 }
