@@ -9,9 +9,10 @@ use Rattle.sheet.specs.declared.Pair.{Pair}
 use Rattle.sheet.specs.declared.Template.{Template}
 use Rattle.sheet.specs.Parts.{Paired}
 use Rattle.sheet.specs.declared.index.Conditions.{Conditions}
+use Rattle.sheet.specs.declared.names.Names.{Names}
 use Rattle.sheet.specs.declared.walk.Tables.{Tables}
 use Rattle.sheet.specs.Table.{Form, table, after, starts, fit, every}
-use Rattle.sheet.specs.Decode.{wide, text_form, length_form, pair_count_form, conditions_in, actions_in, transitions_in, last_in, conditions_at, actions_at, transitions_at, last_at, common_of}
+use Rattle.sheet.specs.Decode.{wide, text_form, length_form, pair_count_form, template_form, conditions_in, actions_in, transitions_in, last_in, conditions_at, actions_at, transitions_at, last_at, common_of}
 use Rattle.sheet.specs.declared.Counts.{Counts}
 use Rattle.sheet.specs.Reading.{between, most_bytes, lent_in, transition_ranged, pair_ranged}
 
@@ -69,6 +70,10 @@ template_suits C t = not (names_in is_monitor C t.postcondition)
 -- a triple of one of sixteen states and one of sixteen units, which 3 and 6 leave
 abbrev pub within : Triple → Bool
 within t = ltb t.state 16 && ltb t.unit 16
+
+-- the templates that a network's transitions may name
+abbrev pub templates_of : Names → List Template
+templates_of N = table template_form N.templates N.s.now N.last
 
 -- 6 of a transition with pairs
 abbrev pub paired_ranged : Counts → List Template → Paired → Bool

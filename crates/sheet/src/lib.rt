@@ -15,6 +15,7 @@ mod formed;
 mod head;
 mod index;
 mod log;
+mod names;
 mod ranged;
 mod read;
 mod records;

@@ -4,9 +4,10 @@ ghost use Rattle.std.specs.Prelude.{◌≡◌, ◌≤◌, drop};
 ghost use Rattle.sheet.specs.Table.{table, every};
 ghost use Rattle.sheet.specs.Decode.{transition_form, triple_form, pair_form, paired_form, template_form};
 ghost use Rattle.sheet.specs.Reading.{transition_ranged, triple_ranged, pair_ranged, template_ranged};
-ghost use Rattle.sheet.specs.Walk.{paired_ranged};
+ghost use Rattle.sheet.specs.Walk.{templates_of, paired_ranged};
 
 use crate::bytes::{byte, number};
+use crate::names::Names;
 use crate::records::{pair, template, transition, triple};
 use crate::table::{PairedTransitions, Pairs, Templates, Transitions, Triples, every};
 use crate::{Counts, Pair, Template, Transition, Triple};
@@ -35,16 +36,6 @@ fn template_ranged(t: Template, n: Counts) -> bool
     ensures { result ≡ template_ranged n t }
 {
     (t.unit < n.units) & (t.postcondition < n.conditions)
-}
-
-// A pair of a transition: the templates begin at `last`, so many of them.
-fn pair_ranged(s: &[u8], p: Pair, t: Transition, n: Counts, last: usize, templates: usize) -> bool
-    requires { last ≤ 100000000 }
-    ensures { result ≡ pair_ranged n (table template_form templates s.now last) t p }
-{
-    let k = usize::from(p.template);
-    let unit = byte(s, last + k * 2);
-    (t.kind == 0) & ((p.condition < n.conditions) & ((k < templates) & (unit == t.unit)))
 }
 
 // Whether n transitions have their numbers in range.
@@ -89,54 +80,51 @@ pub(crate) fn templates_ranged(s: &[u8], at: usize, n: usize, counts: Counts) ->
     )
 }
 
-// The same of the pairs of a transition.
-pub(crate) fn pairs_ranged(
-    s: &[u8],
-    at: usize,
-    n: usize,
-    t: Transition,
-    counts: Counts,
-    last: usize,
-    templates: usize,
-) -> bool
-    requires { (at ≤ 200000000) × (n ≤ 255) × (last ≤ 100000000) }
-    ensures { result ≡ every (pair_ranged counts (table template_form templates s.now last) t) (table pair_form n s.now at) }
-{
-    every(
-        Pairs,
-        s,
-        at,
-        n,
-        |place| pair_ranged(s, pair(s, place), t, counts, last, templates),
-    )
-}
+impl Names<'_> {
+    // A pair of a transition.
+    fn pair_ranged(&self, p: Pair, t: Transition) -> bool
+        ensures { result ≡ pair_ranged self.now.counts (templates_of self.now) t p }
+    {
+        let n = self.counts;
+        let k = usize::from(p.template);
+        let unit = byte(self.s, self.last + k * 2);
+        (t.kind == 0) & ((p.condition < n.conditions) & ((k < self.templates) & (unit == t.unit)))
+    }
 
-fn one_paired_ranged(s: &[u8], at: usize, counts: Counts, last: usize, templates: usize) -> bool
-    requires { (at ≤ 150000000) × (last ≤ 100000000) }
-    ensures { result ≡ paired_ranged counts (table template_form templates s.now last) (paired_form.value (drop at s.now)) }
-{
-    let t = transition(s, at);
-    let pairs = number(s, at + 6);
-    transition_ranged(t, counts) & pairs_ranged(s, at + 7, pairs, t, counts, last, templates)
-}
+    // The pairs of a transition.
+    fn pairs_ranged(&self, at: usize, n: usize, t: Transition) -> bool
+        requires { (at ≤ 200000000) × (n ≤ 255) }
+        ensures { result ≡ every (pair_ranged self.now.counts (templates_of self.now) t) (table pair_form n self.now.s.now at) }
+    {
+        every(
+            Pairs,
+            self.s,
+            at,
+            n,
+            |place| self.pair_ranged(pair(self.s, place), t),
+        )
+    }
 
-// The same of transitions with pairs.
-pub(crate) fn paired_ranged(
-    s: &[u8],
-    at: usize,
-    n: usize,
-    counts: Counts,
-    last: usize,
-    templates: usize,
-) -> bool
-    requires { (at ≤ 100000000) × (n ≤ 255) × (last ≤ 100000000) }
-    ensures { result ≡ every (paired_ranged counts (table template_form templates s.now last)) (table paired_form n s.now at) }
-{
-    every(
-        PairedTransitions,
-        s,
-        at,
-        n,
-        |place| one_paired_ranged(s, place, counts, last, templates),
-    )
+    fn one_paired_ranged(&self, at: usize) -> bool
+        requires { at ≤ 150000000 }
+        ensures { result ≡ paired_ranged self.now.counts (templates_of self.now) (paired_form.value (drop at self.now.s.now)) }
+    {
+        let t = transition(self.s, at);
+        let pairs = number(self.s, at + 6);
+        transition_ranged(t, self.counts) & self.pairs_ranged(at + 7, pairs, t)
+    }
+
+    // Whether n transitions with pairs have their numbers in range.
+    pub(crate) fn paired_ranged(&self, at: usize, n: usize) -> bool
+        requires { (at ≤ 100000000) × (n ≤ 255) }
+        ensures { result ≡ every (paired_ranged self.now.counts (templates_of self.now)) (table paired_form n self.now.s.now at) }
+    {
+        every(
+            PairedTransitions,
+            self.s,
+            at,
+            n,
+            |place| self.one_paired_ranged(place),
+        )
+    }
 }

@@ -9,6 +9,7 @@ ghost use Rattle.sheet.specs.Walk.{Finds, Numbered};
 
 use crate::bytes::{byte, has_wide, number};
 use crate::index::{Conditions, index};
+use crate::names::Names;
 use crate::spread::spread;
 use crate::walk::Tables;
 use crate::{Counts, formed, head, ranged, walk};
@@ -62,7 +63,13 @@ fn network_ranged(s: &[u8], t: Tables) -> bool
 {
     let c = counts(s);
     let templates = number(s, 13);
-    ranged::paired_ranged(s, t.transitions, number(s, 12), c, t.last, templates)
+    let names = Names {
+        s,
+        counts: c,
+        last: t.last,
+        templates,
+    };
+    names.paired_ranged(t.transitions, number(s, 12))
         & ranged::templates_ranged(s, t.last, templates, c)
 }
 
