@@ -58,5 +58,5 @@ fn start_holds(s: &[u8]) -> bool
 pub(crate) fn is_bad(bad: u16, state: u8) -> bool
     ensures { result ≡ is_bad bad state }
 {
-    shifted(bad as u32, state) % 2 == 1
+    shifted(u32::from(bad), state) % 2 == 1
 }
