@@ -8,8 +8,9 @@ use Rattle.sheet.specs.declared.Triple.{Triple}
 use Rattle.sheet.specs.declared.Pair.{Pair}
 use Rattle.sheet.specs.declared.Template.{Template}
 use Rattle.sheet.specs.Parts.{Paired}
-use Rattle.sheet.specs.declared.index.Conditions.{Conditions}
+use Rattle.sheet.specs.declared.names.Conditions.{Conditions}
 use Rattle.sheet.specs.declared.names.Names.{Names}
+use Rattle.sheet.specs.declared.Places.{Places}
 use Rattle.sheet.specs.declared.walk.Tables.{Tables}
 use Rattle.sheet.specs.Table.{Form, table, after, starts, fit, every}
 use Rattle.sheet.specs.Decode.{wide, text_form, length_form, pair_count_form, template_form, conditions_in, actions_in, transitions_in, last_in, conditions_at, actions_at, transitions_at, last_at, common_of}
@@ -37,6 +38,10 @@ pub record Finds {T R : Type 0} (F : Form T) (G : Form R) (s : List ℕ) (r : Ta
   pub small_actions : r.actions ≤ 70000000
   pub small_transitions : r.transitions ≤ 70000000
   pub small_last : r.last ≤ 70000000
+
+-- where the parts stand, by the tables
+abbrev pub places_by : List ℕ → Tables → Places
+places_by s t = record { conditions = fit 161 0 (starts (text_form (wide s)) (conditions_in s) s t.conditions); actions = fit 161 0 (starts (text_form false) (actions_in s) s t.actions); transitions = t.transitions; last = t.last }
 
 -- the conditions by their number, of which the first begins at a place
 pub record Numbered (s : List ℕ) (at : ℕ) (C : Conditions) : Type 0 where

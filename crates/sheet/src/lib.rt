@@ -141,26 +141,14 @@ pub fn is_bad(bad: u16, state: u8) -> bool
 pub fn sheet_places(s: &[u8]) -> Places
     ensures { result ≡ places_of sheet_layout s.now }
 {
-    let t = walk::sheet_tables(s);
-    Places {
-        conditions: index::index(s, t.conditions, bytes::number(s, 10), bytes::has_wide(s)),
-        actions: index::index(s, t.actions, bytes::number(s, 11), false),
-        transitions: t.transitions as u32,
-        last: t.last as u32,
-    }
+    index::places(s, walk::sheet_tables(s))
 }
 
 // Where the parts of a network stand.
 pub fn network_places(s: &[u8]) -> Places
     ensures { result ≡ places_of network_layout s.now }
 {
-    let t = walk::network_tables(s);
-    Places {
-        conditions: index::index(s, t.conditions, bytes::number(s, 10), bytes::has_wide(s)),
-        actions: index::index(s, t.actions, bytes::number(s, 11), false),
-        transitions: t.transitions as u32,
-        last: t.last as u32,
-    }
+    index::places(s, walk::network_tables(s))
 }
 
 // The byte at a place.

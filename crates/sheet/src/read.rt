@@ -8,8 +8,8 @@ ghost use Rattle.sheet.specs.Answer.{reading_paper, answer};
 ghost use Rattle.sheet.specs.Walk.{Finds, Numbered};
 
 use crate::bytes::{byte, has_wide, number};
-use crate::index::{Conditions, index};
-use crate::names::Names;
+use crate::index::index;
+use crate::names::{Conditions, Names};
 use crate::spread::spread;
 use crate::walk::Tables;
 use crate::{Counts, formed, head, ranged, walk};

@@ -7,7 +7,7 @@ ghost use Rattle.sheet.specs.Decode.{wide, text_form, transition_form, triple_fo
 ghost use Rattle.sheet.specs.Walk.{names_in, guard_suits, triple_suits, pair_suits, paired_suits, template_suits};
 
 use crate::bytes::number;
-use crate::index::Conditions;
+use crate::names::Conditions;
 use crate::records::{condition_text, pair, template, transition, triple};
 use crate::table::{PairedTransitions, Pairs, Templates, Transitions, Triples, every};
 use crate::{Pair, Template, Transition, Triple};

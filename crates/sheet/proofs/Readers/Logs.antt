@@ -1,6 +1,6 @@
 -- Reading a log and its records, and what the crate's readers answer. Assumes nothing.
-use mathlib.Core.Path.{◌≡◌, ◌∙◌}
-use mathlib.Core.Bool.{Bool, true, false, ◌&&◌}
+use mathlib.Core.Path.{◌≡◌}
+use mathlib.Core.Bool.{true, false, ◌&&◌}
 use mathlib.Core.List.{List}
 use Prim.Native.Nat.{ℕ, ◌+◌, ◌-◌, ◌/◌, ◌%◌, ◌≤◌}
 use native.Mathlib.Omega.{arith}
@@ -9,25 +9,16 @@ use lib.Dec.{leb, eqb}
 use lib.ListN.{length, drop}
 use Rattle.sheet.specs.declared.walk.Tables.{Tables}
 use Rattle.sheet.specs.Bytes.{byte, half, word}
-use Rattle.sheet.specs.Table.{starts, fit}
-use Rattle.sheet.specs.Decode.{wide, text_form, conditions_in, actions_in}
 use Rattle.sheet.specs.Reading.{Layout}
 use Rattle.sheet.specs.Log.{record_size, log_reading, records_in}
 use Rattle.sheet.specs.Answer.{accepted, refused, read_of, places_of}
-use Rattle.sheet.specs.Walk.{Finds}
+use Rattle.sheet.specs.Walk.{Finds, places_by}
 use Rattle.sheet.proofs.Tables.{and_parts}
 use Rattle.sheet.proofs.Readers.Loops.{byte_here, byte_past}
 
--- the index and the places
-module _ {T R : Type 0} (F : Layout T R) (s : List ℕ) (t : Tables) (f : Finds F.transition F.last s t) (n m : ℕ) (en : n ≡ conditions_in s) (em : m ≡ actions_in s) (b : Bool) (eb : b ≡ wide s) (x y : List ℕ) (ex : x ≡ fit 161 0 (starts (text_form b) n s t.conditions)) (ey : y ≡ fit 161 0 (starts (text_form false) m s t.actions)) where
-  first_index : x ≡ (places_of F s).conditions
-  first_index = ex ∙ rw (eb, en, f.conditions)
-
-  second_index : y ≡ (places_of F s).actions
-  second_index = ey ∙ rw (em, f.actions)
-
-  pub places_found : record { conditions = x; actions = y; transitions = t.transitions; last = t.last } ≡ places_of F s
-  places_found = λ i. record { conditions = first_index i; actions = second_index i; transitions = f.transitions i; last = f.last i }
+-- the places, by the tables
+pub places_found : {T R : Type 0} (F : Layout T R) (s : List ℕ) (t : Tables) → Finds F.transition F.last s t → places_by s t ≡ places_of F s
+places_found F s t f = rw (f.conditions, f.actions, f.transitions, f.last)
 
 module _ (P : ℕ) (s : List ℕ) (w v l : ℕ) (ew : w ≡ word s 0) (ev : v ≡ byte s 4) (el : l ≡ byte s 5) where
   pub log_16 : (leb 6 (length s) && (eqb w (length s) && eqb v 1)) ≡ false → refused 16 ≡ read_of (log_reading P s) (records_in P s)

@@ -4,7 +4,7 @@ use mathlib.Core.Bool.{◌&&◌}
 use Rattle.sheet.specs.Table.{every}
 use Rattle.sheet.specs.Walk.{guard_suits, pair_suits}
 use Rattle.sheet.proofs.Readers.Found.{paired_value}
-use Rattle.sheet.proofs.index.Conditions.one_paired_suits.Goals as goal
+use Rattle.sheet.proofs.names.Conditions.one_paired_suits.Goals as goal
 
 pub returns : goal.returns
 returns c =
