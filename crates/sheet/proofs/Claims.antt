@@ -1,8 +1,7 @@
 -- Answers are told by their paper's words; how long sheets and networks are; networks read back. Assumes nothing.
-use mathlib.Core.Path.{◌≡◌, refl, ap, subst}
+use mathlib.Core.Path.{refl, subst}
 use mathlib.Core.Bool.{Bool}
-use Prim.Native.Nat.{ℕ, ◌≤◌}
-use native.Mathlib.Omega.{arith}
+use Prim.Native.Nat.{◌≤◌}
 use lib.ListN.{length}
 use Rattle.condition.specs.Word.{big_endian}
 use Rattle.condition.specs.Tree.{condition_names, value_names, action_names, is_monitor, is_at_entry}

@@ -4,6 +4,5 @@ pub mod Widths
 pub mod Found
 pub mod Tallies
 pub mod Indexing
-pub mod Suits
 pub mod Refusals
 pub mod Logs

@@ -63,22 +63,17 @@ module _ {A : Type 0} (F : Form A) where
   table_at (suc n) s a zero d h = refl
   table_at (suc n) s a (suc i) d h = rw drop-drop (table_at n s (a + F.size (drop a s)) i d (le_of_suc-le-suc h))
 
+  -- the records from where they begin
+  pub map_starts : (n : ℕ) (s : List ℕ) (a : ℕ) → map (λ k. F.value (drop k s)) (starts F n s a) ≡ table F n s a
+  unfolding starts records
+  map_starts zero s a = refl
+  map_starts (suc n) s a = rw drop-drop (ap (λ (l : List A). F.value (drop a s) ∷ l) (map_starts n s (a + F.size (drop a s))))
+
   -- and through an index with room for w
   pub indexed : (w n : ℕ) (s : List ℕ) (a i : ℕ) (d : A) → i < n → n ≤ w → F.value (drop (get_or (fit w 0 (starts F n s a)) i 0) s) ≡ get_or (table F n s a) i d
   indexed w n s a i d h few =
       let long = length_starts n s a in
       rw (fit_at w (starts F n s a) i (omega arith) (omega arith)) (table_at n s a i d h)
-
--- Tests on all records, one more of them tested: the turn and the end of a loop that goes up.
-module _ {A : Type 0} (ok : Bool) (p : A → Bool) (F : Form A) where
-  pub every_turn : (n : ℕ) (s : List ℕ) (a : ℕ)
-      → ((ok && p (F.value (drop a s))) && every p (table F n s (a + F.size (drop a s)))) ≡ (ok && every p (table F (suc n) s a))
-  unfolding every
-  every_turn n s a = rw (table_step F n s a) (and_assoc ok (p (F.value (drop a s))) _)
-
-  pub every_none : (s : List ℕ) (a : ℕ) → (ok && every p (table F 0 s a)) ≡ ok
-  unfolding every records
-  every_none s a = and_true ok
 
 -- Records of one size, k.
 module _ {A : Type 0} (F : Form A) (k : ℕ) (sized : (s : List ℕ) → F.size s ≡ k) where

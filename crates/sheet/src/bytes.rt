@@ -10,22 +10,10 @@ pub(crate) fn byte(s: &[u8], at: usize) -> u8
     if at < s.len() { s[at] } else { 0 }
 }
 
-pub(crate) fn wide(x: u8) -> usize
-    ensures { (result ≡ x) × (result < 256) }
-{
-    x as usize
-}
-
-pub(crate) fn place(x: u32) -> usize
-    ensures { (result ≡ x) × (result < 4294967296) }
-{
-    x as usize
-}
-
 pub(crate) fn number(s: &[u8], at: usize) -> usize
     ensures { (result ≡ byte s.now at) × (result < 256) }
 {
-    wide(byte(s, at))
+    usize::from(byte(s, at))
 }
 
 // Two bytes.

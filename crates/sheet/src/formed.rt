@@ -6,8 +6,8 @@ ghost use Rattle.condition.specs.Answer.{condition_which, action_which};
 ghost use Rattle.sheet.specs.Table.{table, every};
 ghost use Rattle.sheet.specs.Decode.{text_form};
 
-use crate::bytes::text_size;
 use crate::records::text;
+use crate::table::{Texts, every};
 use condition::Lent;
 
 // Whether n texts are conditions.
@@ -15,15 +15,13 @@ pub(crate) fn conditions_formed(s: &[u8], at: usize, n: usize, lent: Lent, w: bo
     requires { (at ≤ 100000000) × (n ≤ 255) }
     ensures { result ≡ every (condition_which (λ _. true) lent) (table (text_form w) n s.now at) }
 {
-    let mut ok = true;
-    let mut place = at;
-    let mut left = n;
-    while 0 < left {
-        ok = ok & condition::is_condition(text(s, place, w), lent);
-        place = place + text_size(s, place, w);
-        left -= 1;
-    }
-    ok
+    every(
+        Texts { wide: w },
+        s,
+        at,
+        n,
+        |place| condition::is_condition(text(s, place, w), lent),
+    )
 }
 
 // Whether n texts are actions.
@@ -31,15 +29,13 @@ pub(crate) fn actions_formed(s: &[u8], at: usize, n: usize, lent: Lent) -> bool
     requires { (at ≤ 100000000) × (n ≤ 255) }
     ensures { result ≡ every (action_which (λ _. true) lent) (table (text_form false) n s.now at) }
 {
-    let mut ok = true;
-    let mut place = at;
-    let mut left = n;
-    while 0 < left {
-        ok = ok & condition::is_action(text(s, place, false), lent);
-        place = place + text_size(s, place, false);
-        left -= 1;
-    }
-    ok
+    every(
+        Texts { wide: false },
+        s,
+        at,
+        n,
+        |place| condition::is_action(text(s, place, false), lent),
+    )
 }
 
 // Whether none of n texts is an action with a value-at-entry.
@@ -47,13 +43,11 @@ pub(crate) fn actions_free(s: &[u8], at: usize, n: usize, lent: Lent) -> bool
     requires { (at ≤ 100000000) × (n ≤ 255) }
     ensures { result ≡ every (λ a. not (action_which (λ r. action_names r is_at_entry) lent a)) (table (text_form false) n s.now at) }
 {
-    let mut ok = true;
-    let mut place = at;
-    let mut left = n;
-    while 0 < left {
-        ok = ok & !condition::action_has_entry(text(s, place, false), lent);
-        place = place + text_size(s, place, false);
-        left -= 1;
-    }
-    ok
+    every(
+        Texts { wide: false },
+        s,
+        at,
+        n,
+        |place| !condition::action_has_entry(text(s, place, false), lent),
+    )
 }

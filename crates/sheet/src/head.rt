@@ -7,6 +7,7 @@ ghost use Rattle.sheet.specs.Reading.{is_bad, whole, counts_hold, start_holds, b
 use crate::bytes::{byte, half, number, shifted};
 
 // 1 does not apply: the bytes say how many they are.
+#[tactic(auto, unfolding(crate::specs::Reading::whole))]
 pub(crate) fn whole(s: &[u8]) -> bool
     ensures { result ≡ whole s.now }
 {
@@ -57,5 +58,5 @@ fn start_holds(s: &[u8]) -> bool
 pub(crate) fn is_bad(bad: u16, state: u8) -> bool
     ensures { result ≡ is_bad bad state }
 {
-    shifted(bad as u32, state) % 2 == 1
+    shifted(u32::from(bad), state) % 2 == 1
 }

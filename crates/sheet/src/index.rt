@@ -3,22 +3,29 @@
 ghost use Rattle.std.specs.Prelude.{◌≡◌, ◌≤◌};
 ghost use Rattle.sheet.specs.Table.{starts, fit};
 ghost use Rattle.sheet.specs.Decode.{text_form};
+ghost use Rattle.sheet.specs.Walk.{places_by};
 
-use crate::bytes::text_size;
+use crate::Places;
+use crate::bytes::{has_wide, number};
+use crate::table::{Texts, numbers};
+use crate::walk::Tables;
 
 pub(crate) fn index(s: &[u8], at: usize, n: usize, w: bool) -> [u32; 161]
     requires { (at ≤ 100000000) × (n ≤ 255) }
     ensures { result ≡ fit 161 0 (starts (text_form w) n s.now at) }
 {
-    let mut out = [0u32; 161];
-    let mut i = 0;
-    let mut place = at;
-    while i < n {
-        if i < 161 {
-            out[i] = place as u32;
-        }
-        place = place + text_size(s, place, w);
-        i += 1;
+    numbers(Texts { wide: w }, s, at, n, |place| place as u32)
+}
+
+// Where the parts stand, by the tables.
+pub(crate) fn places(s: &[u8], t: Tables) -> Places
+    requires { (t.conditions ≤ 70000000) × (t.actions ≤ 70000000) × (t.transitions ≤ 70000000) × (t.last ≤ 70000000) }
+    ensures { result ≡ places_by s.now t }
+{
+    Places {
+        conditions: index(s, t.conditions, number(s, 10), has_wide(s)),
+        actions: index(s, t.actions, number(s, 11), false),
+        transitions: t.transitions as u32,
+        last: t.last as u32,
     }
-    out
 }

@@ -15,11 +15,13 @@ mod formed;
 mod head;
 mod index;
 mod log;
+mod names;
 mod ranged;
 mod read;
 mod records;
 mod roles;
 mod spread;
+mod table;
 mod walk;
 
 use refusal::Refusal;
@@ -139,98 +141,86 @@ pub fn is_bad(bad: u16, state: u8) -> bool
 pub fn sheet_places(s: &[u8]) -> Places
     ensures { result ≡ places_of sheet_layout s.now }
 {
-    let t = walk::sheet_tables(s);
-    Places {
-        conditions: index::index(s, t.conditions, bytes::number(s, 10), bytes::has_wide(s)),
-        actions: index::index(s, t.actions, bytes::number(s, 11), false),
-        transitions: t.transitions as u32,
-        last: t.last as u32,
-    }
+    index::places(s, walk::sheet_tables(s))
 }
 
 // Where the parts of a network stand.
 pub fn network_places(s: &[u8]) -> Places
     ensures { result ≡ places_of network_layout s.now }
 {
-    let t = walk::network_tables(s);
-    Places {
-        conditions: index::index(s, t.conditions, bytes::number(s, 10), bytes::has_wide(s)),
-        actions: index::index(s, t.actions, bytes::number(s, 11), false),
-        transitions: t.transitions as u32,
-        last: t.last as u32,
-    }
+    index::places(s, walk::network_tables(s))
 }
 
 // The byte at a place.
 pub fn byte_at(s: &[u8], at: u32) -> u8
     ensures { result ≡ byte s.now at }
 {
-    bytes::byte(s, bytes::place(at))
+    bytes::byte(s, at as usize)
 }
 
 // The word at a place, as of an initial value.
 pub fn word_at(s: &[u8], at: u32) -> u32
     ensures { result ≡ word_form.value (drop at s.now) }
 {
-    records::word(s, bytes::place(at))
+    records::word(s, at as usize)
 }
 
 // The bytes of the condition that begins at a place.
 pub fn condition_at(s: &[u8], at: u32) -> &[u8]
     ensures { result.now ≡ (text_form (wide s.now)).value (drop at s.now) }
 {
-    records::condition_text(s, bytes::place(at))
+    records::condition_text(s, at as usize)
 }
 
 // The bytes of the action that begins at a place.
 pub fn action_at(s: &[u8], at: u32) -> &[u8]
     ensures { result.now ≡ (text_form false).value (drop at s.now) }
 {
-    records::text(s, bytes::place(at), false)
+    records::text(s, at as usize, false)
 }
 
 // The transition at a place, without its pairs.
 pub fn transition_at(s: &[u8], at: u32) -> Transition
     ensures { result ≡ transition_of (drop at s.now) }
 {
-    records::transition(s, bytes::place(at))
+    records::transition(s, at as usize)
 }
 
 pub fn triple_at(s: &[u8], at: u32) -> Triple
     ensures { result ≡ triple_form.value (drop at s.now) }
 {
-    records::triple(s, bytes::place(at))
+    records::triple(s, at as usize)
 }
 
 pub fn pair_at(s: &[u8], at: u32) -> Pair
     ensures { result ≡ pair_form.value (drop at s.now) }
 {
-    records::pair(s, bytes::place(at))
+    records::pair(s, at as usize)
 }
 
 pub fn template_at(s: &[u8], at: u32) -> Template
     ensures { result ≡ template_form.value (drop at s.now) }
 {
-    records::template(s, bytes::place(at))
+    records::template(s, at as usize)
 }
 
 // Reads a log for so many program variables: how many records it has.
 pub fn read_log(s: &[u8], programs: u8) -> Result<usize, Refusal>
     ensures { log_paper result ≡ read_of (log_reading programs s.now) (records_in programs s.now) }
 {
-    log::read(s, bytes::wide(programs))
+    log::read(s, usize::from(programs))
 }
 
 // The record at a place of a log.
 pub fn record_at(s: &[u8], at: u32) -> Record
     ensures { result ≡ record_of (drop at s.now) }
 {
-    log::record(s, bytes::place(at))
+    log::record(s, at as usize)
 }
 
 // Up to eight words from a place on, zeros behind them.
 pub fn words_at(s: &[u8], at: u32, n: u8) -> [u32; 8]
     ensures { result ≡ fit 8 0 (table word_form n s.now at) }
 {
-    log::words(s, bytes::place(at), bytes::wide(n))
+    log::words(s, at as usize, usize::from(n))
 }

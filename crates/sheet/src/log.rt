@@ -6,15 +6,16 @@ ghost use Rattle.sheet.specs.Decode.{word_form};
 ghost use Rattle.sheet.specs.Log.{log_reading, records_in};
 ghost use Rattle.sheet.specs.Answer.{log_paper, read_of, record_of};
 
-use crate::bytes::{byte, half, number, place};
-use crate::{Record, bytes};
+use crate::bytes::{byte, half, number};
+use crate::table::{Words, numbers};
+use crate::{Record, bytes, records};
 use refusal::Refusal;
 
 pub(crate) fn read(s: &[u8], programs: usize) -> Result<usize, Refusal>
     requires { programs ≤ 255 }
     ensures { log_paper result ≡ read_of (log_reading programs s.now) (records_in programs s.now) }
 {
-    let said = place(bytes::word(s, 0));
+    let said = bytes::word(s, 0) as usize;
     let version = number(s, 4);
     let lent = number(s, 5);
     if (6 <= s.len()) & ((said == s.len()) & (version == 1)) {} else {
@@ -47,15 +48,5 @@ pub(crate) fn words(s: &[u8], at: usize, n: usize) -> [u32; 8]
     requires { (at ≤ 7000000000) × (n ≤ 255) }
     ensures { result ≡ fit 8 0 (table word_form n s.now at) }
 {
-    let mut out = [0u32; 8];
-    let mut i = 0;
-    let mut here = at;
-    while i < n {
-        if i < 8 {
-            out[i] = bytes::word(s, here);
-        }
-        here = here + 4;
-        i += 1;
-    }
-    out
+    numbers(Words, s, at, n, |place| records::word(s, place))
 }

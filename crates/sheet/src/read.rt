@@ -2,19 +2,21 @@
 
 ghost use Rattle.std.specs.Prelude.{◌≡◌, ◌≤◌};
 ghost use Rattle.sheet.specs.Bytes.{byte};
-ghost use Rattle.sheet.specs.Decode.{common_of, conditions_at, actions_at};
+ghost use Rattle.sheet.specs.Decode.{common_of, conditions_at, actions_at, transition_form, triple_form, paired_form, template_form};
 ghost use Rattle.sheet.specs.Reading.{sheet_layout, network_layout, lent_in, counts_of, counted, formed, ranged, roled, transitions_of, last_of, reading};
 ghost use Rattle.sheet.specs.Answer.{reading_paper, answer};
-ghost use Rattle.sheet.specs.Walk.{Finds};
+ghost use Rattle.sheet.specs.Walk.{Finds, Numbered};
 
 use crate::bytes::{byte, has_wide, number};
 use crate::index::index;
+use crate::names::{Conditions, Names};
 use crate::spread::spread;
 use crate::walk::Tables;
-use crate::{Counts, formed, head, ranged, roles, walk};
+use crate::{Counts, formed, head, ranged, walk};
 use condition::Lent;
 use refusal::Refusal;
 
+#[tactic(auto, unfolding(crate::specs::Decode::common_of))]
 fn lent(s: &[u8]) -> Lent
     ensures { result ≡ lent_in (common_of s.now) }
 {
@@ -25,6 +27,7 @@ fn lent(s: &[u8]) -> Lent
     }
 }
 
+#[tactic(auto, using(crate::proofs::Tables::length_records), unfolding(crate::specs::Decode::common_of))]
 fn counts(s: &[u8]) -> Counts
     ensures { result ≡ counts_of (common_of s.now) }
 {
@@ -37,7 +40,7 @@ fn counts(s: &[u8]) -> Counts
 }
 
 fn texts_formed(s: &[u8], conditions: usize, actions: usize) -> bool
-    requires { (conditions ≡ conditions_at s.now) × (actions ≡ actions_at s.now) × (conditions ≤ 40000000) × (actions ≤ 40000000) }
+    requires { (conditions ≡ conditions_at s.now) × (actions ≡ actions_at s.now) × (conditions ≤ 70000000) × (actions ≤ 70000000) }
     ensures { result ≡ formed (common_of s.now) }
 {
     let l = lent(s);
@@ -46,7 +49,7 @@ fn texts_formed(s: &[u8], conditions: usize, actions: usize) -> bool
 }
 
 fn sheet_ranged(s: &[u8], t: Tables) -> bool
-    requires { Finds sheet_layout s.now t }
+    requires { Finds transition_form triple_form s.now t }
     ensures { result ≡ ranged sheet_layout (common_of s.now) (transitions_of sheet_layout s.now) (last_of sheet_layout s.now) }
 {
     let c = counts(s);
@@ -55,37 +58,53 @@ fn sheet_ranged(s: &[u8], t: Tables) -> bool
 }
 
 fn network_ranged(s: &[u8], t: Tables) -> bool
-    requires { Finds network_layout s.now t }
+    requires { Finds paired_form template_form s.now t }
     ensures { result ≡ ranged network_layout (common_of s.now) (transitions_of network_layout s.now) (last_of network_layout s.now) }
 {
     let c = counts(s);
     let templates = number(s, 13);
-    ranged::paired_ranged(s, t.transitions, number(s, 12), c, t.last, templates)
+    let names = Names {
+        s,
+        counts: c,
+        last: t.last,
+        templates,
+    };
+    names.paired_ranged(t.transitions, number(s, 12))
         & ranged::templates_ranged(s, t.last, templates, c)
 }
 
+// The conditions by their number.
+fn conditions(s: &[u8], at: usize) -> Conditions<'_>
+    requires { (at ≤ 70000000) × (byte s.now 10 ≤ 161) }
+    ensures { Numbered s.now at result }
+{
+    let count = number(s, 10);
+    Conditions {
+        s,
+        index: index(s, at, count, has_wide(s)),
+        count,
+        lent: lent(s),
+    }
+}
+
 fn sheet_roled(s: &[u8], t: Tables) -> bool
-    requires { (Finds sheet_layout s.now t) × (byte s.now 10 ≤ 161) }
+    requires { (Finds transition_form triple_form s.now t) × (byte s.now 10 ≤ 161) }
     ensures { result ≡ roled sheet_layout (common_of s.now) (transitions_of sheet_layout s.now) (last_of sheet_layout s.now) }
 {
-    let l = lent(s);
-    let n = number(s, 10);
-    let i = index(s, t.conditions, n, has_wide(s));
-    formed::actions_free(s, t.actions, number(s, 11), l)
-        & (roles::guards_suit(s, t.transitions, number(s, 12), &i, n, l)
-            & roles::triples_suit(s, t.last, number(s, 13), &i, n, l))
+    let conditions = conditions(s, t.conditions);
+    formed::actions_free(s, t.actions, number(s, 11), conditions.lent)
+        & (conditions.guards_suit(t.transitions, number(s, 12))
+            & conditions.triples_suit(t.last, number(s, 13)))
 }
 
 fn network_roled(s: &[u8], t: Tables) -> bool
-    requires { (Finds network_layout s.now t) × (byte s.now 10 ≤ 161) }
+    requires { (Finds paired_form template_form s.now t) × (byte s.now 10 ≤ 161) }
     ensures { result ≡ roled network_layout (common_of s.now) (transitions_of network_layout s.now) (last_of network_layout s.now) }
 {
-    let l = lent(s);
-    let n = number(s, 10);
-    let i = index(s, t.conditions, n, has_wide(s));
-    formed::actions_free(s, t.actions, number(s, 11), l)
-        & (roles::paired_suit(s, t.transitions, number(s, 12), &i, n, l)
-            & roles::templates_suit(s, t.last, number(s, 13), &i, n, l))
+    let conditions = conditions(s, t.conditions);
+    formed::actions_free(s, t.actions, number(s, 11), conditions.lent)
+        & (conditions.paired_suit(t.transitions, number(s, 12))
+            & conditions.templates_suit(t.last, number(s, 13)))
 }
 
 pub(crate) fn sheet(s: &[u8]) -> Result<(), Refusal>
@@ -101,7 +120,7 @@ pub(crate) fn sheet(s: &[u8]) -> Result<(), Refusal>
         return Err(Refusal::Counts);
     }
     let t = walk::sheet_tables(s);
-    if t.ok & (t.end == s.len()) {} else {
+    if walk::sheet_tabled(s, t) {} else {
         return Err(Refusal::Lengths);
     }
     if texts_formed(s, t.conditions, t.actions) {} else {
@@ -127,6 +146,7 @@ fn most_conditions(w: bool) -> usize
     if w { 161 } else { 65 }
 }
 
+#[tactic(auto, unfolding(crate::specs::Reading::counted))]
 fn network_counts(s: &[u8]) -> bool
     ensures { result ≡ counted network_layout s.now }
 {
@@ -146,7 +166,7 @@ pub(crate) fn network(s: &[u8]) -> Result<(), Refusal>
         return Err(Refusal::Counts);
     }
     let t = walk::network_tables(s);
-    if t.ok & (t.end == s.len()) {} else {
+    if walk::network_tabled(s, t) {} else {
         return Err(Refusal::Lengths);
     }
     if texts_formed(s, t.conditions, t.actions) {} else {

@@ -1,190 +1,150 @@
-// Refusal 7: conditions in their roles. The index says where each condition begins.
+// Refusal 7: conditions in their roles.
 
-ghost use Rattle.std.specs.Prelude.{◌≡◌, ◌≤◌, drop};
+ghost use Rattle.std.specs.Prelude.{◌≡◌, ◌≤◌, ◌<◌, MatchOption, slice_index, drop};
 ghost use Rattle.condition.specs.Tree.{is_monitor, is_at_entry};
 ghost use Rattle.sheet.specs.Table.{table, every};
-ghost use Rattle.sheet.specs.Decode.{transition_form, triple_form, pair_form, paired_form, template_form};
-ghost use Rattle.sheet.specs.Walk.{names_at, guard_suits, triple_suits, pair_suits, paired_suits, template_suits};
+ghost use Rattle.sheet.specs.Decode.{wide, text_form, transition_form, triple_form, pair_form, paired_form, template_form};
+ghost use Rattle.sheet.specs.Walk.{names_in, guard_suits, triple_suits, pair_suits, paired_suits, template_suits};
 
-use crate::bytes::{number, place, wide};
+use crate::bytes::number;
+use crate::names::Conditions;
 use crate::records::{condition_text, pair, template, transition, triple};
+use crate::table::{PairedTransitions, Pairs, Templates, Transitions, Triples, every};
 use crate::{Pair, Template, Transition, Triple};
-use condition::Lent;
 
-fn names_entry(s: &[u8], index: &[u32; 161], conditions: usize, lent: Lent, i: u8) -> bool
-    requires { conditions ≤ 161 }
-    ensures { result ≡ names_at is_at_entry s.now index.now conditions lent i }
-{
-    let k = wide(i);
-    if k < conditions {
-        condition::condition_has_entry(condition_text(s, place(index[k])), lent)
-    } else {
-        false
+impl Conditions<'_> {
+    // The condition of this number, if there is one.
+    fn get(&self, i: u8) -> Option<&[u8]>
+        ensures { MatchOption result (self.now.count ≤ i) (λ t. (i < self.now.count) × (t.now ≡ (text_form (wide self.now.s.now)).value (drop (slice_index self.now.index i) self.now.s.now))) }
+    {
+        let k = usize::from(i);
+        if k < self.count {
+            Some(condition_text(self.s, self.index[k] as usize))
+        } else {
+            None
+        }
     }
-}
 
-fn names_monitor(s: &[u8], index: &[u32; 161], conditions: usize, lent: Lent, i: u8) -> bool
-    requires { conditions ≤ 161 }
-    ensures { result ≡ names_at is_monitor s.now index.now conditions lent i }
-{
-    let k = wide(i);
-    if k < conditions {
-        condition::condition_has_monitor(condition_text(s, place(index[k])), lent)
-    } else {
-        false
+    // Whether it names a value at entry.
+    fn names_entry(&self, i: u8) -> bool
+        ensures { result ≡ names_in is_at_entry self.now i }
+    {
+        match self.get(i) {
+            Some(s) => condition::condition_has_entry(s, self.lent),
+            None => false,
+        }
     }
-}
 
-fn guard_suits(s: &[u8], index: &[u32; 161], conditions: usize, lent: Lent, t: Transition) -> bool
-    requires { conditions ≤ 161 }
-    ensures { result ≡ guard_suits s.now index.now conditions lent t }
-{
-    !names_entry(s, index, conditions, lent, t.condition)
-}
-
-fn triple_suits(s: &[u8], index: &[u32; 161], conditions: usize, lent: Lent, t: Triple) -> bool
-    requires { conditions ≤ 161 }
-    ensures { result ≡ triple_suits s.now index.now conditions lent t }
-{
-    !names_entry(s, index, conditions, lent, t.precondition)
-        & !names_monitor(s, index, conditions, lent, t.postcondition)
-}
-
-fn pair_suits(s: &[u8], index: &[u32; 161], conditions: usize, lent: Lent, p: Pair) -> bool
-    requires { conditions ≤ 161 }
-    ensures { result ≡ pair_suits s.now index.now conditions lent p }
-{
-    !names_entry(s, index, conditions, lent, p.condition)
-}
-
-fn template_suits(s: &[u8], index: &[u32; 161], conditions: usize, lent: Lent, t: Template) -> bool
-    requires { conditions ≤ 161 }
-    ensures { result ≡ template_suits s.now index.now conditions lent t }
-{
-    !names_monitor(s, index, conditions, lent, t.postcondition)
-}
-
-// Whether the conditions of n transitions suit their role.
-pub(crate) fn guards_suit(
-    s: &[u8],
-    at: usize,
-    n: usize,
-    index: &[u32; 161],
-    conditions: usize,
-    lent: Lent,
-) -> bool
-    requires { (at ≤ 100000000) × (n ≤ 255) × (conditions ≤ 161) }
-    ensures { result ≡ every (guard_suits s.now index.now conditions lent) (table transition_form n s.now at) }
-{
-    let mut ok = true;
-    let mut here = at;
-    let mut left = n;
-    while 0 < left {
-        ok = ok & guard_suits(s, index, conditions, lent, transition(s, here));
-        here = here + 6;
-        left -= 1;
+    // Whether it names a monitor variable.
+    fn names_monitor(&self, i: u8) -> bool
+        ensures { result ≡ names_in is_monitor self.now i }
+    {
+        match self.get(i) {
+            Some(s) => condition::condition_has_monitor(s, self.lent),
+            None => false,
+        }
     }
-    ok
-}
 
-// The same of both conditions of triples.
-pub(crate) fn triples_suit(
-    s: &[u8],
-    at: usize,
-    n: usize,
-    index: &[u32; 161],
-    conditions: usize,
-    lent: Lent,
-) -> bool
-    requires { (at ≤ 100000000) × (n ≤ 255) × (conditions ≤ 161) }
-    ensures { result ≡ every (triple_suits s.now index.now conditions lent) (table triple_form n s.now at) }
-{
-    let mut ok = true;
-    let mut here = at;
-    let mut left = n;
-    while 0 < left {
-        ok = ok & triple_suits(s, index, conditions, lent, triple(s, here));
-        here = here + 4;
-        left -= 1;
+    fn guard_suits(&self, t: Transition) -> bool
+        ensures { result ≡ guard_suits self.now t }
+    {
+        !self.names_entry(t.condition)
     }
-    ok
-}
 
-// The same of the postconditions of templates.
-pub(crate) fn templates_suit(
-    s: &[u8],
-    at: usize,
-    n: usize,
-    index: &[u32; 161],
-    conditions: usize,
-    lent: Lent,
-) -> bool
-    requires { (at ≤ 100000000) × (n ≤ 255) × (conditions ≤ 161) }
-    ensures { result ≡ every (template_suits s.now index.now conditions lent) (table template_form n s.now at) }
-{
-    let mut ok = true;
-    let mut here = at;
-    let mut left = n;
-    while 0 < left {
-        ok = ok & template_suits(s, index, conditions, lent, template(s, here));
-        here = here + 2;
-        left -= 1;
+    fn triple_suits(&self, t: Triple) -> bool
+        ensures { result ≡ triple_suits self.now t }
+    {
+        !self.names_entry(t.precondition) & !self.names_monitor(t.postcondition)
     }
-    ok
-}
 
-// The same of the conditions of pairs.
-pub(crate) fn pairs_suit(
-    s: &[u8],
-    at: usize,
-    n: usize,
-    index: &[u32; 161],
-    conditions: usize,
-    lent: Lent,
-) -> bool
-    requires { (at ≤ 200000000) × (n ≤ 255) × (conditions ≤ 161) }
-    ensures { result ≡ every (pair_suits s.now index.now conditions lent) (table pair_form n s.now at) }
-{
-    let mut ok = true;
-    let mut here = at;
-    let mut left = n;
-    while 0 < left {
-        ok = ok & pair_suits(s, index, conditions, lent, pair(s, here));
-        here = here + 2;
-        left -= 1;
+    fn pair_suits(&self, p: Pair) -> bool
+        ensures { result ≡ pair_suits self.now p }
+    {
+        !self.names_entry(p.condition)
     }
-    ok
-}
 
-fn one_paired_suits(s: &[u8], at: usize, index: &[u32; 161], conditions: usize, lent: Lent) -> bool
-    requires { (at ≤ 150000000) × (conditions ≤ 161) }
-    ensures { result ≡ paired_suits s.now index.now conditions lent (paired_form.value (drop at s.now)) }
-{
-    let t = transition(s, at);
-    let pairs = number(s, at + 6);
-    guard_suits(s, index, conditions, lent, t)
-        & pairs_suit(s, at + 7, pairs, index, conditions, lent)
-}
-
-// The same of transitions with pairs.
-pub(crate) fn paired_suit(
-    s: &[u8],
-    at: usize,
-    n: usize,
-    index: &[u32; 161],
-    conditions: usize,
-    lent: Lent,
-) -> bool
-    requires { (at ≤ 100000000) × (n ≤ 255) × (conditions ≤ 161) }
-    ensures { result ≡ every (paired_suits s.now index.now conditions lent) (table paired_form n s.now at) }
-{
-    let mut ok = true;
-    let mut here = at;
-    let mut left = n;
-    while 0 < left {
-        ok = ok & one_paired_suits(s, here, index, conditions, lent);
-        here = here + (7 + 2 * number(s, here + 6));
-        left -= 1;
+    fn template_suits(&self, t: Template) -> bool
+        ensures { result ≡ template_suits self.now t }
+    {
+        !self.names_monitor(t.postcondition)
     }
-    ok
+
+    // Whether the conditions of n transitions suit their role.
+    pub(crate) fn guards_suit(&self, at: usize, n: usize) -> bool
+        requires { (at ≤ 100000000) × (n ≤ 255) }
+        ensures { result ≡ every (guard_suits self.now) (table transition_form n self.now.s.now at) }
+    {
+        every(
+            Transitions,
+            self.s,
+            at,
+            n,
+            |place| self.guard_suits(transition(self.s, place)),
+        )
+    }
+
+    // The same of both conditions of triples.
+    pub(crate) fn triples_suit(&self, at: usize, n: usize) -> bool
+        requires { (at ≤ 100000000) × (n ≤ 255) }
+        ensures { result ≡ every (triple_suits self.now) (table triple_form n self.now.s.now at) }
+    {
+        every(
+            Triples,
+            self.s,
+            at,
+            n,
+            |place| self.triple_suits(triple(self.s, place)),
+        )
+    }
+
+    // The same of the postconditions of templates.
+    pub(crate) fn templates_suit(&self, at: usize, n: usize) -> bool
+        requires { (at ≤ 100000000) × (n ≤ 255) }
+        ensures { result ≡ every (template_suits self.now) (table template_form n self.now.s.now at) }
+    {
+        every(
+            Templates,
+            self.s,
+            at,
+            n,
+            |place| self.template_suits(template(self.s, place)),
+        )
+    }
+
+    // The same of the conditions of pairs.
+    fn pairs_suit(&self, at: usize, n: usize) -> bool
+        requires { (at ≤ 200000000) × (n ≤ 255) }
+        ensures { result ≡ every (pair_suits self.now) (table pair_form n self.now.s.now at) }
+    {
+        every(
+            Pairs,
+            self.s,
+            at,
+            n,
+            |place| self.pair_suits(pair(self.s, place)),
+        )
+    }
+
+    fn one_paired_suits(&self, at: usize) -> bool
+        requires { at ≤ 150000000 }
+        ensures { result ≡ paired_suits self.now (paired_form.value (drop at self.now.s.now)) }
+    {
+        let t = transition(self.s, at);
+        let pairs = number(self.s, at + 6);
+        self.guard_suits(t) & self.pairs_suit(at + 7, pairs)
+    }
+
+    // The same of transitions with pairs.
+    pub(crate) fn paired_suit(&self, at: usize, n: usize) -> bool
+        requires { (at ≤ 100000000) × (n ≤ 255) }
+        ensures { result ≡ every (paired_suits self.now) (table paired_form n self.now.s.now at) }
+    {
+        every(
+            PairedTransitions,
+            self.s,
+            at,
+            n,
+            |place| self.one_paired_suits(place),
+        )
+    }
 }

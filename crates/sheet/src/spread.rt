@@ -6,8 +6,10 @@ ghost use Rattle.sheet.specs.Decode.{triple_form};
 ghost use Rattle.sheet.specs.Reading.{together};
 ghost use Rattle.sheet.specs.Walk.{within};
 
-use crate::bytes::wide;
 use crate::records::triple;
+
+// The most triples of one state and unit.
+const MOST: u8 = 4;
 
 // Whether none of n triples stands with more than three others: they are counted, by state and unit.
 pub(crate) fn spread(s: &[u8], at: usize, n: usize) -> bool
@@ -16,17 +18,15 @@ pub(crate) fn spread(s: &[u8], at: usize, n: usize) -> bool
 {
     let mut counts = [0u8; 256];
     let mut place = at;
-    let mut left = n;
-    while 0 < left {
+    for _ in 0..n {
         let t = triple(s, place);
-        let cell = 16 * wide(t.state) + wide(t.unit);
-        let count = counts[cell];
-        if count < 4 {} else {
+        let cell = 16 * usize::from(t.state) + usize::from(t.unit);
+        let count = &mut counts[cell];
+        if *count == MOST {
             return false;
         }
-        counts[cell] = count + 1;
-        place = place + 4;
-        left -= 1;
+        *count += 1;
+        place += 4;
     }
     true
 }

@@ -1,20 +1,19 @@
-// Where the tables stand, and whether their length bytes are in range: refusal 4.
+// Where the tables stand, and whether their length bytes are in range and they end at the end:
+// refusal 4.
 
-ghost use Rattle.std.specs.Prelude.{◌≤◌, ◌≡◌};
-ghost use Rattle.sheet.specs.Decode.{text_form, length_form, paired_form, pair_count_form};
-ghost use Rattle.sheet.specs.Reading.{most_bytes, sheet_layout, network_layout};
-ghost use Rattle.sheet.specs.Walk.{Walks, FindsTexts, Finds};
+ghost use Rattle.std.specs.Prelude.{◌≡◌, ◌≤◌, ◌&&◌};
+ghost use Rattle.sheet.specs.Decode.{transition_form, triple_form, paired_form, template_form, conditions_at, actions_at, transitions_at};
+ghost use Rattle.sheet.specs.Reading.{most_bytes, sheet_layout, network_layout, tabled};
+ghost use Rattle.sheet.specs.Walk.{Finds, condition_lengths, action_lengths, pair_counts};
 
-use crate::bytes::{has_wide, lead, number, said};
+use crate::bytes::{has_wide, number, said};
 use crate::head::between;
+use crate::table::{
+    Lengths, PairCounts, PairedTransitions, Records, Templates, Texts, Transitions, Triples, after,
+    every,
+};
 
-// Whether the length bytes of a table are in range, and where it ends.
-#[derive(Clone, Copy)]
-pub(crate) struct Walk {
-    pub ok: bool,
-    pub end: usize,
-}
-
+// Where each table begins, and where the last ends.
 #[derive(Clone, Copy)]
 pub(crate) struct Tables {
     pub conditions: usize,
@@ -22,7 +21,36 @@ pub(crate) struct Tables {
     pub transitions: usize,
     pub last: usize,
     pub end: usize,
-    pub ok: bool,
+}
+
+// The tables of a layout, by the records of its last two.
+fn find_tables<T: Records, R: Records>(s: &[u8], transitions_of: T, last_of: R) -> Tables
+    ensures { Finds (T.form transitions_of) (R.form last_of) s.now result }
+{
+    let conditions = 14 + number(s, 6) * 4;
+    let actions = after(Texts { wide: has_wide(s) }, s, conditions, number(s, 10));
+    let transitions = after(Texts { wide: false }, s, actions, number(s, 11));
+    let last = after(transitions_of, s, transitions, number(s, 12));
+    let end = after(last_of, s, last, number(s, 13));
+    Tables {
+        conditions,
+        actions,
+        transitions,
+        last,
+        end,
+    }
+}
+
+pub(crate) fn sheet_tables(s: &[u8]) -> Tables
+    ensures { Finds transition_form triple_form s.now result }
+{
+    find_tables(s, Transitions, Triples)
+}
+
+pub(crate) fn network_tables(s: &[u8]) -> Tables
+    ensures { Finds paired_form template_form s.now result }
+{
+    find_tables(s, PairedTransitions, Templates)
 }
 
 // The most bytes of a text.
@@ -32,92 +60,45 @@ fn most_bytes(w: bool) -> usize
     if w { 1024 } else { 64 }
 }
 
-// A table of n conditions or actions, of at least so many bytes.
-fn walk_texts(s: &[u8], at: usize, n: usize, least: usize, w: bool) -> Walk
-    requires { (at ≤ 100000000) × (n ≤ 255) }
-    ensures { Walks (text_form w) (length_form w) least (most_bytes w) n s.now at 65537 result }
+// Whether the lengths of conditions and actions are in range.
+fn lengths_hold(s: &[u8], conditions: usize, actions: usize) -> bool
+    requires { (conditions ≡ conditions_at s.now) × (actions ≡ actions_at s.now) × (conditions ≤ 70000000) × (actions ≤ 70000000) }
+    ensures { result ≡ (condition_lengths s.now && action_lengths s.now) }
 {
-    let mut ok = true;
-    let mut place = at;
-    let mut left = n;
-    while 0 < left {
-        let length = said(s, place, w);
-        ok = ok & between(least, most_bytes(w), length);
-        place = place + (lead(w) + length);
-        left -= 1;
-    }
-    Walk { ok, end: place }
+    let wide = has_wide(s);
+    every(Lengths { wide }, s, conditions, number(s, 10), |place| {
+        between(1, most_bytes(wide), said(s, place, wide))
+    }) & every(
+        Lengths { wide: false },
+        s,
+        actions,
+        number(s, 11),
+        |place| { between(0, most_bytes(false), said(s, place, false)) },
+    )
 }
 
-// A table of n transitions with pairs.
-fn walk_paired(s: &[u8], at: usize, n: usize) -> Walk
-    requires { (at ≤ 100000000) × (n ≤ 255) }
-    ensures { Walks paired_form pair_count_form 0 4 n s.now at 517 result }
+// 4 does not apply to a sheet with these tables.
+pub(crate) fn sheet_tabled(s: &[u8], t: Tables) -> bool
+    requires { Finds transition_form triple_form s.now t }
+    ensures { result ≡ tabled sheet_layout s.now }
 {
-    let mut ok = true;
-    let mut place = at;
-    let mut left = n;
-    while 0 < left {
-        let pairs = number(s, place + 6);
-        ok = ok & between(0, 4, pairs);
-        place = place + (7 + 2 * pairs);
-        left -= 1;
-    }
-    Walk { ok, end: place }
+    lengths_hold(s, t.conditions, t.actions) & (t.end == s.len())
 }
 
-// What the tables of conditions and actions come to, in both layouts.
-#[derive(Clone, Copy)]
-struct Texts {
-    conditions: usize,
-    actions: usize,
-    transitions: usize,
-    first: bool,
-    second: bool,
+// Whether a network's transitions have at most four pairs each.
+fn pairs_hold(s: &[u8], transitions: usize) -> bool
+    requires { (transitions ≡ transitions_at s.now) × (transitions ≤ 70000000) }
+    ensures { result ≡ pair_counts s.now }
+{
+    every(PairCounts, s, transitions, number(s, 12), |place| {
+        between(0, 4, number(s, place + 6))
+    })
 }
 
-fn find_texts(s: &[u8]) -> Texts
-    ensures { FindsTexts s.now result }
+// The same of a network.
+pub(crate) fn network_tabled(s: &[u8], t: Tables) -> bool
+    requires { Finds paired_form template_form s.now t }
+    ensures { result ≡ tabled network_layout s.now }
 {
-    let conditions = 14 + number(s, 6) * 4;
-    let first = walk_texts(s, conditions, number(s, 10), 1, has_wide(s));
-    let second = walk_texts(s, first.end, number(s, 11), 0, false);
-    Texts {
-        conditions,
-        actions: first.end,
-        transitions: second.end,
-        first: first.ok,
-        second: second.ok,
-    }
-}
-
-pub(crate) fn sheet_tables(s: &[u8]) -> Tables
-    ensures { Finds sheet_layout s.now result }
-{
-    let t = find_texts(s);
-    let last = t.transitions + number(s, 12) * 6;
-    Tables {
-        conditions: t.conditions,
-        actions: t.actions,
-        transitions: t.transitions,
-        last,
-        end: last + number(s, 13) * 4,
-        ok: t.first & t.second,
-    }
-}
-
-pub(crate) fn network_tables(s: &[u8]) -> Tables
-    ensures { Finds network_layout s.now result }
-{
-    let t = find_texts(s);
-    let paired = walk_paired(s, t.transitions, number(s, 12));
-    let last = paired.end;
-    Tables {
-        conditions: t.conditions,
-        actions: t.actions,
-        transitions: t.transitions,
-        last,
-        end: last + number(s, 13) * 2,
-        ok: t.first & (t.second & paired.ok),
-    }
+    lengths_hold(s, t.conditions, t.actions) & (pairs_hold(s, t.transitions) & (t.end == s.len()))
 }

@@ -1,15 +1,16 @@
 -- An array of the places where the texts of a table begin. Assumes nothing.
-use mathlib.Core.Path.{◌≡◌, refl, ap, subst, ◌∙◌}
-use mathlib.Core.Bool.{Bool}
-use mathlib.Core.List.{List, [], ◌∷◌, ◌++◌, append_assoc, append-nil}
-use Prim.Native.Nat.{ℕ, zero, suc, ◌+◌, ◌-◌, ◌*◌, ◌≤◌, ◌<◌}
-use native.Mathlib.Nat.{sub-zero}
+use mathlib.Core.Path.{◌≡◌, refl, sym, ap, ◌∙◌}
+use mathlib.Core.List.{List, [], ◌∷◌, ◌++◌, map, append_assoc, append-nil}
+use Prim.Native.Nat.{ℕ, zero, suc, ◌+◌, ◌-◌, ◌≤◌, ◌<◌}
+use native.Mathlib.Nat.{min-eq_left, min-eq_right, sub-zero}
 use native.Mathlib.Numerals.{add-one}
 use native.Mathlib.Omega.{arith}
-use lib.ListN.{length, set, drop, replicate, length-append, length-set}
+use Rattle.std.proofs.Common.{min}
+use Rattle.std.proofs.lemmas.Bool.{cases_lt}
+use mathlib.Core.Logic.{inl, inr}
+use lib.ListN.{length, set, drop, replicate, length-append}
 use lib.Seq.{sets, set-append_seam, set_out}
-use Rattle.sheet.specs.Table.{starts, fit}
-use Rattle.sheet.specs.Decode.{text_form}
+use Rattle.sheet.specs.Table.{Form, starts, fit}
 
 -- storing one behind the other fills the front of a constant list
 module _ {A : Type 0} (d : A) where
@@ -33,29 +34,26 @@ module _ {A : Type 0} (d : A) where
   pub sets_fit : (n : ℕ) (l : List A) → sets (replicate n d) 0 l ≡ fit n d l
   sets_fit n l = sets_behind l n []
 
--- the places of the texts from number i on, stored from i on, give them all
-pub record Indexed (w : Bool) (n : ℕ) (s : List ℕ) (at : ℕ) (out : List ℕ) (i place : ℕ) : Type 0 where
-  pub all : sets out i (starts (text_form w) (n - i) s place) ≡ fit 161 0 (starts (text_form w) n s at)
-  pub room : place ≤ at + 65537 * i
-  pub few : i ≤ n
-  pub long : length out ≡ 161
-
-module _ (w : Bool) (n : ℕ) (s : List ℕ) (at : ℕ) where
-  pub indexed_start : Indexed w n s at (replicate 161 0) 0 at
-  indexed_start = record { all = rw (sub-zero n) (sets_fit 0 161 (starts (text_form w) n s at)); room = omega arith; few = omega arith; long = refl }
-
-  pub indexed_next : (out : List ℕ) (i place : ℕ) → Indexed w n s at out i place → i < n → (k : ℕ) → k ≡ (text_form w).size (drop place s) → k ≤ 65537 → Indexed w n s at (set out i place) (i + 1) (place + k)
+-- A loop that stores what f makes of the records' places, with those from number i on still to store, of which the first begins at `place`.
+module _ {A : Type 0} (f : ℕ → ℕ) (F : Form A) (w n i : ℕ) (s : List ℕ) (at place : ℕ) (out : List ℕ) (e : sets out i (map f (starts F (n - i) s place)) ≡ fit w 0 (map f (starts F n s at))) where
+  pub stored_next : i < n → (v : ℕ) → v ≡ f place → (k : ℕ) → k ≡ F.size (drop place s) → sets (set out i v) (i + 1) (map f (starts F (n - (i + 1)) s (place + k))) ≡ fit w 0 (map f (starts F n s at))
   unfolding starts
-  indexed_next out i place g h k e l =
+  stored_next h v ev k ek =
       let m : n - i ≡ suc (n - (i + 1)) = omega arith in
-      record { all = rw (add-one i, e) (rw (add-one i) at (rw m at g.all)); room = omega (arith, g.room); few = omega arith; long = length-set out i place ∙ g.long }
+      rw (add-one i, ev, ek) (rw (add-one i) at (rw m at e))
 
-  -- past the last place nothing is stored
-  pub indexed_past : (out : List ℕ) (i place : ℕ) → Indexed w n s at out i place → i < n → 161 ≤ i → (k : ℕ) → k ≡ (text_form w).size (drop place s) → k ≤ 65537 → Indexed w n s at out (i + 1) (place + k)
-  indexed_past out i place g h p k e l = subst (λ (o : List ℕ). Indexed w n s at o (i + 1) (place + k)) (set_out out i place (omega (arith, g.long))) (indexed_next out i place g h k e l)
-
-  pub indexed_end : (out : List ℕ) (i place : ℕ) → Indexed w n s at out i place → n ≤ i → out ≡ fit 161 0 (starts (text_form w) n s at)
+  pub stored_all : length out ≡ w → min n w ≤ i → out ≡ fit w 0 (map f (starts F n s at))
   unfolding starts
-  indexed_end out i place g h =
-      let m : n - i ≡ 0 = omega arith in
-      rw m at g.all
+  stored_all l h = elim (cases_lt n w) [ inl a ↦ past (let b : n ≤ w = omega arith in rw (min-eq_left b) at h) | inr b ↦ full (rw (min-eq_right b) at h) ]
+    where
+      past : n ≤ i → out ≡ fit w 0 (map f (starts F n s at))
+      past k =
+          let m : n - i ≡ 0 = omega arith in
+          rw m at e
+
+      full : w ≤ i → out ≡ fit w 0 (map f (starts F n s at))
+      full k = sym (sets_out 0 out i (map f (starts F (n - i) s place)) (omega arith)) ∙ e
+
+module _ {A : Type 0} (f : ℕ → ℕ) (F : Form A) (w n : ℕ) (s : List ℕ) (at : ℕ) where
+  pub stored_none : sets (replicate w 0) 0 (map f (starts F (n - 0) s at)) ≡ fit w 0 (map f (starts F n s at))
+  stored_none = rw (sub-zero n) (sets_fit 0 w (map f (starts F n s at)))

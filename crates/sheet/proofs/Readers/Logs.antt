@@ -1,38 +1,24 @@
 -- Reading a log and its records, and what the crate's readers answer. Assumes nothing.
-use mathlib.Core.Path.{◌≡◌, refl, subst, ◌∙◌}
-use mathlib.Core.Bool.{Bool, true, false, ◌&&◌}
+use mathlib.Core.Path.{◌≡◌}
+use mathlib.Core.Bool.{true, false, ◌&&◌}
 use mathlib.Core.List.{List}
-use Prim.Native.Nat.{ℕ, zero, suc, ◌+◌, ◌-◌, ◌*◌, ◌/◌, ◌%◌, ◌≤◌, ◌<◌}
-use native.Mathlib.Nat.{sub-zero}
-use native.Mathlib.Numerals.{add-one}
+use Prim.Native.Nat.{ℕ, ◌+◌, ◌-◌, ◌/◌, ◌%◌, ◌≤◌}
 use native.Mathlib.Omega.{arith}
 use borrow.Author.Tests.{leb-true, eq-eqb, ne_eqb}
 use lib.Dec.{leb, eqb}
-use lib.ListN.{length, set, drop, replicate, length-set}
-use lib.Seq.{sets, set_out}
+use lib.ListN.{length, drop}
 use Rattle.sheet.specs.declared.walk.Tables.{Tables}
 use Rattle.sheet.specs.Bytes.{byte, half, word}
-use Rattle.sheet.specs.Table.{records, table, starts, fit}
-use Rattle.sheet.specs.Decode.{word_form, wide, text_form, conditions_in, actions_in}
 use Rattle.sheet.specs.Reading.{Layout}
 use Rattle.sheet.specs.Log.{record_size, log_reading, records_in}
-use Rattle.sheet.specs.Answer.{accepted, refused, read_of, answer, places_of}
-use Rattle.sheet.specs.Walk.{Finds}
-use Rattle.sheet.proofs.Tables.{and_parts, table_step}
+use Rattle.sheet.specs.Answer.{accepted, refused, read_of, places_of}
+use Rattle.sheet.specs.Walk.{Finds, places_by}
+use Rattle.sheet.proofs.Tables.{and_parts}
 use Rattle.sheet.proofs.Readers.Loops.{byte_here, byte_past}
-use Rattle.sheet.proofs.Readers.Indexing.{sets_fit}
-use Rattle.sheet.proofs.Readers.Refusals.{texts_there, transitions_there, last_there}
 
--- the index and the places
-module _ {T R : Type 0} (F : Layout T R) (s : List ℕ) (t : Tables) (f : Finds F s t) (n m : ℕ) (en : n ≡ conditions_in s) (em : m ≡ actions_in s) (b : Bool) (eb : b ≡ wide s) (x y : List ℕ) (ex : x ≡ fit 161 0 (starts (text_form b) n s t.conditions)) (ey : y ≡ fit 161 0 (starts (text_form false) m s t.actions)) where
-  first_index : x ≡ (places_of F s).conditions
-  first_index = ex ∙ rw (eb, en, (texts_there F s t f).0)
-
-  second_index : y ≡ (places_of F s).actions
-  second_index = ey ∙ rw (em, (texts_there F s t f).1)
-
-  pub places_found : record { conditions = x; actions = y; transitions = t.transitions; last = t.last } ≡ places_of F s
-  places_found = λ i. record { conditions = first_index i; actions = second_index i; transitions = transitions_there F s t f i; last = last_there F s t f i }
+-- the places, by the tables
+pub places_found : {T R : Type 0} (F : Layout T R) (s : List ℕ) (t : Tables) → Finds F.transition F.last s t → places_by s t ≡ places_of F s
+places_found F s t f = rw (f.conditions, f.actions, f.transitions, f.last)
 
 module _ (P : ℕ) (s : List ℕ) (w v l : ℕ) (ew : w ≡ word s 0) (ev : v ≡ byte s 4) (el : l ≡ byte s 5) where
   pub log_16 : (leb 6 (length s) && (eqb w (length s) && eqb v 1)) ≡ false → refused 16 ≡ read_of (log_reading P s) (records_in P s)
@@ -64,32 +50,3 @@ pub half_past : (s : List ℕ) (a : ℕ) → half s (a + 2) ≡ half (drop a s) 
 half_past s a =
     let e : a + 2 + 1 ≡ a + 3 = omega arith in
     rw (e, byte_past s a 2, byte_past s a 3)
-
-pub record Filled (n : ℕ) (s : List ℕ) (at : ℕ) (out : List ℕ) (i place : ℕ) : Type 0 where
-  pub all : sets out i (table word_form (n - i) s place) ≡ fit 8 0 (table word_form n s at)
-  pub room : place ≡ at + 4 * i
-  pub few : i ≤ n
-  pub long : length out ≡ 8
-
-module _ (n : ℕ) (s : List ℕ) (at : ℕ) where
-  pub filled_start : Filled n s at (replicate 8 0) 0 at
-  filled_start = record { all = rw (sub-zero n) (sets_fit 0 8 (table word_form n s at)); room = omega arith; few = omega arith; long = refl }
-
-  pub filled_next : (out : List ℕ) (i place : ℕ) → Filled n s at out i place → i < n → (w : ℕ) → w ≡ word s place → Filled n s at (set out i w) (i + 1) (place + 4)
-  filled_next out i place g h w e =
-      let m : n - i ≡ suc (n - (i + 1)) = omega arith in
-      record {
-        all = rw (add-one i, e, word_here s place) (rw (add-one i) at (rw (m, table_step word_form (n - (i + 1)) s place) at g.all));
-        room = omega (arith, g.room);
-        few = omega arith;
-        long = length-set out i w ∙ g.long;
-      }
-
-  pub filled_past : (out : List ℕ) (i place : ℕ) → Filled n s at out i place → i < n → 8 ≤ i → Filled n s at out (i + 1) (place + 4)
-  filled_past out i place g h p = subst (λ (o : List ℕ). Filled n s at o (i + 1) (place + 4)) (set_out out i (word s place) (omega (arith, g.long))) (filled_next out i place g h (word s place) refl)
-
-  pub filled_end : (out : List ℕ) (i place : ℕ) → Filled n s at out i place → n ≤ i → out ≡ fit 8 0 (table word_form n s at)
-  unfolding records
-  filled_end out i place g h =
-      let m : n - i ≡ 0 = omega arith in
-      rw m at g.all

@@ -16,13 +16,14 @@ use Rattle.sheet.specs.declared.Transition.{Transition}
 use Rattle.sheet.specs.declared.Triple.{Triple}
 use Rattle.sheet.specs.declared.Pair.{Pair}
 use Rattle.sheet.specs.declared.Template.{Template}
+use Rattle.sheet.specs.declared.names.Conditions.{Conditions}
 use Rattle.sheet.specs.declared.walk.Tables.{Tables}
 use Rattle.sheet.specs.Bytes.{byte}
 use Rattle.sheet.specs.Table.{table, starts, fit, every}
 use Rattle.sheet.specs.Parts.{Paired}
 use Rattle.sheet.specs.Decode.{wide, text_form, transition_form, triple_form, paired_form, template_form, conditions_in, actions_in, transitions_in, last_in, last_at, conditions_at, actions_at, transitions_at, common_of}
 use Rattle.sheet.specs.Reading.{together, transition_ranged, triple_ranged, template_ranged, counts_of, counts_hold, Layout, Use, guard, precondition, postcondition, between, lent_in, condition_in, names_entry, used_well, whole, counted, tabled, formed, ranged, roled, transitions_of, last_of, reading, sheet_layout, network_layout}
-use Rattle.sheet.specs.Walk.{paired_ranged, within, Finds, condition_lengths, action_lengths, tables_of, names_at, guard_suits, triple_suits, paired_suits, template_suits}
+use Rattle.sheet.specs.Walk.{paired_ranged, within, Finds, condition_lengths, action_lengths, Numbered, names_at, names_in, guard_suits, triple_suits, paired_suits, template_suits}
 use Rattle.sheet.proofs.Tests.{and_iff, leb_iff}
 use Rattle.sheet.proofs.Tables.{and_parts, and_both, and_assoc, and_true, length_records, indexed, every_same, every_map, every_weaker}
 
@@ -72,14 +73,10 @@ module _ {T R : Type 0} (F : Layout T R) (s : List ℕ) where
                 refuse_none e = rw (a, b, c, d, f, g, h, e)
 
 -- 4 from the tables that were found
-pub tabled_found : {T R : Type 0} (F : Layout T R) (s : List ℕ) (t : Tables) → t ≡ tables_of F s → (t.ok && eqb t.end (length s)) ≡ tabled F s
-unfolding tabled
-tabled_found F s t e =
-    let pairs = every (between 0 4) (table F.pair_counts (transitions_in s) s (transitions_at s)) in
-    let ends = eqb (tables_of F s).end (length s) in
-    ap (λ (u : Tables). u.ok && eqb u.end (length s)) e
-    ∙ and_assoc (condition_lengths s) (action_lengths s && pairs) ends
-    ∙ ap (λ (b : Bool). condition_lengths s && b) (and_assoc (action_lengths s) pairs ends)
+module _ {T R : Type 0} (F : Layout T R) (s : List ℕ) (t : Tables) (f : Finds F.transition F.last s t) (lengths pairs : Bool) (el : lengths ≡ (condition_lengths s && action_lengths s)) (ep : pairs ≡ every (between 0 4) (table F.pair_counts (transitions_in s) s (transitions_at s))) where
+  pub tabled_found : (lengths && (pairs && eqb t.end (length s))) ≡ tabled F s
+  unfolding tabled
+  tabled_found = rw (el, ep, f.end) (and_assoc (condition_lengths s) (action_lengths s) _)
 
 -- a condition by its number, through the index
 names_nothing : (p : Variable → Bool) (L : Lent) → condition_which (λ c. condition_names c p) L (0 ∷ []) ≡ false
@@ -99,36 +96,33 @@ names_number p s n a L i h = go (ltb i n) refl
         rw (get_or-eq_default (table (text_form (wide s)) n s a) (0 ∷ []) {n = i} (omega arith)) (sym (names_nothing p L))
 
 -- 7, role by role, of what the index says
-module _ (s : List ℕ) (few : byte s 10 ≤ 161) where
-  abbrev numbered : List ℕ
-  numbered = fit 161 0 (starts (text_form (wide s)) (conditions_in s) s (conditions_at s))
-
-  by_number : (p : Variable → Bool) (i : ℕ) → names_at p s numbered (conditions_in s) (lent_in (common_of s)) i ≡ condition_which (λ c. condition_names c p) (lent_in (common_of s)) (condition_in (common_of s) i)
+module _ (s : List ℕ) (few : byte s 10 ≤ 161) (C : Conditions) (f : Numbered s (conditions_at s) C) where
+  by_number : (p : Variable → Bool) (i : ℕ) → names_in p C i ≡ condition_which (λ c. condition_names c p) (lent_in (common_of s)) (condition_in (common_of s) i)
   unfolding common_of
-  by_number p i = names_number p s (conditions_in s) (conditions_at s) (lent_in (common_of s)) i few
+  by_number p i = rw (f.bytes, f.index, f.count, f.lent) (names_number p s (conditions_in s) (conditions_at s) (lent_in (common_of s)) i few)
 
   -- a transition's condition and a precondition
-  before_well : (i : ℕ) → not (names_at is_at_entry s numbered (conditions_in s) (lent_in (common_of s)) i) ≡ not (names_entry (common_of s) (condition_in (common_of s) i))
+  before_well : (i : ℕ) → not (names_in is_at_entry C i) ≡ not (names_entry (common_of s) (condition_in (common_of s) i))
   before_well i = ap not (by_number is_at_entry i)
 
-  after_well : (i : ℕ) → not (names_at is_monitor s numbered (conditions_in s) (lent_in (common_of s)) i) ≡ used_well (common_of s) (record { number = i; role = postcondition })
+  after_well : (i : ℕ) → not (names_in is_monitor C i) ≡ used_well (common_of s) (record { number = i; role = postcondition })
   after_well i = ap not (by_number is_monitor i)
 
   one_use : (u : Use) → used_well (common_of s) u ≡ every (used_well (common_of s)) (u ∷ [])
   unfolding every
   one_use u = sym (and_true (used_well (common_of s) u))
 
-  pub guards_well : (l : List Transition) → every (guard_suits s numbered (conditions_in s) (lent_in (common_of s))) l ≡ every (λ t. every (used_well (common_of s)) (sheet_layout.transition_uses t)) l
+  pub guards_well : (l : List Transition) → every (guard_suits C) l ≡ every (λ t. every (used_well (common_of s)) (sheet_layout.transition_uses t)) l
   guards_well l = every_same _ _ (λ t. before_well t.condition ∙ one_use (record { number = t.condition; role = guard })) l
 
-  pub triples_well : (l : List Triple) → every (triple_suits s numbered (conditions_in s) (lent_in (common_of s))) l ≡ every (λ t. every (used_well (common_of s)) (sheet_layout.last_uses t)) l
+  pub triples_well : (l : List Triple) → every (triple_suits C) l ≡ every (λ t. every (used_well (common_of s)) (sheet_layout.last_uses t)) l
   unfolding every
   triples_well l = every_same _ _ (λ t. ap₂ ◌&&◌ (before_well t.precondition) (after_well t.postcondition ∙ one_use (record { number = t.postcondition; role = postcondition }))) l
 
-  pub templates_well : (l : List Template) → every (template_suits s numbered (conditions_in s) (lent_in (common_of s))) l ≡ every (λ t. every (used_well (common_of s)) (network_layout.last_uses t)) l
+  pub templates_well : (l : List Template) → every (template_suits C) l ≡ every (λ t. every (used_well (common_of s)) (network_layout.last_uses t)) l
   templates_well l = every_same _ _ (λ t. after_well t.postcondition ∙ one_use _) l
 
-  pub paired_well : (l : List Paired) → every (paired_suits s numbered (conditions_in s) (lent_in (common_of s))) l ≡ every (λ t. every (used_well (common_of s)) (network_layout.transition_uses t)) l
+  pub paired_well : (l : List Paired) → every (paired_suits C) l ≡ every (λ t. every (used_well (common_of s)) (network_layout.transition_uses t)) l
   unfolding every
   paired_well l = every_same _ _ (λ t. ap₂ ◌&&◌ (before_well t.base.condition) (every_same _ _ (λ p. before_well p.condition) t.pairs ∙ sym (every_map (used_well (common_of s)) (λ (p : Pair). record { number = p.condition; role = precondition }) t.pairs))) l
 
@@ -168,35 +162,21 @@ module _ (s : List ℕ) (k : Counts) (ek : k ≡ counts_of (common_of s)) (n m a
   unfolding ranged
   network_ranged_found eb ex ey = rw (ex, ey, ek, en, ea, em, eb)
 
-module _ (s : List ℕ) (few : byte s 10 ≤ 161) (l : Lent) (el : l ≡ lent_in (common_of s)) (v : Bool) (ev : v ≡ wide s) (index : List ℕ) (c d : ℕ) (ei : index ≡ fit 161 0 (starts (text_form v) c s d)) (ec : c ≡ conditions_in s) (ed : d ≡ conditions_at s) (k e : ℕ) (ek : k ≡ actions_in s) (ee : e ≡ actions_at s) (n m a b : ℕ) (en : n ≡ transitions_in s) (em : m ≡ last_in s) (ea : a ≡ transitions_at s) (w x y : Bool) (ew : w ≡ every (λ t. not (action_which (λ r. action_names r is_at_entry) l t)) (table (text_form false) k s e)) where
+module _ (s : List ℕ) (few : byte s 10 ≤ 161) (d : ℕ) (ed : d ≡ conditions_at s) (C : Conditions) (f : Numbered s d C) (k e : ℕ) (ek : k ≡ actions_in s) (ee : e ≡ actions_at s) (n m a b : ℕ) (en : n ≡ transitions_in s) (em : m ≡ last_in s) (ea : a ≡ transitions_at s) (w x y : Bool) (ew : w ≡ every (λ t. not (action_which (λ r. action_names r is_at_entry) C.lent t)) (table (text_form false) k s e)) where
   free_found : w ≡ every (λ t. not (action_which (λ r. action_names r is_at_entry) (lent_in (common_of s)) t)) (common_of s).actions
   unfolding common_of
-  free_found = ew ∙ rw (el, ek, ee)
+  free_found = ew ∙ rw (f.lent, ek, ee)
 
-  index_found : index ≡ fit 161 0 (starts (text_form (wide s)) (conditions_in s) s (conditions_at s))
-  index_found = ei ∙ rw (ev, ec, ed)
+  numbered : Numbered s (conditions_at s) C
+  numbered = rw ed at f
 
-  pub sheet_roled_found : b ≡ last_at transition_form s → x ≡ every (guard_suits s index c l) (table transition_form n s a) → y ≡ every (triple_suits s index c l) (table triple_form m s b) → (w && (x && y)) ≡ roled sheet_layout (common_of s) (transitions_of sheet_layout s) (last_of sheet_layout s)
+  pub sheet_roled_found : b ≡ last_at transition_form s → x ≡ every (guard_suits C) (table transition_form n C.s.now a) → y ≡ every (triple_suits C) (table triple_form m C.s.now b) → (w && (x && y)) ≡ roled sheet_layout (common_of s) (transitions_of sheet_layout s) (last_of sheet_layout s)
   unfolding roled
-  sheet_roled_found eb ex ey = rw (free_found, ex, ey, index_found, ec, el, en, ea, em, eb, guards_well s few (transitions_of sheet_layout s), triples_well s few (last_of sheet_layout s))
+  sheet_roled_found eb ex ey = rw (free_found, ex ∙ ap (λ (u : List ℕ). every (guard_suits C) (table transition_form n u a)) f.bytes, ey ∙ ap (λ (u : List ℕ). every (triple_suits C) (table triple_form m u b)) f.bytes, en, ea, em, eb, guards_well s few C numbered (transitions_of sheet_layout s), triples_well s few C numbered (last_of sheet_layout s))
 
-  pub network_roled_found : b ≡ last_at paired_form s → x ≡ every (paired_suits s index c l) (table paired_form n s a) → y ≡ every (template_suits s index c l) (table template_form m s b) → (w && (x && y)) ≡ roled network_layout (common_of s) (transitions_of network_layout s) (last_of network_layout s)
+  pub network_roled_found : b ≡ last_at paired_form s → x ≡ every (paired_suits C) (table paired_form n C.s.now a) → y ≡ every (template_suits C) (table template_form m C.s.now b) → (w && (x && y)) ≡ roled network_layout (common_of s) (transitions_of network_layout s) (last_of network_layout s)
   unfolding roled
-  network_roled_found eb ex ey = rw (free_found, ex, ey, index_found, ec, el, en, ea, em, eb, paired_well s few (transitions_of network_layout s), templates_well s few (last_of network_layout s))
-
--- the places that were found
-module _ {T R : Type 0} (F : Layout T R) (s : List ℕ) (t : Tables) (f : Finds F s t) where
-  pub texts_there : (t.conditions ≡ conditions_at s) × (t.actions ≡ actions_at s) × (t.conditions ≤ 40000000) × (t.actions ≤ 40000000)
-  texts_there = (ap (λ (u : Tables). u.conditions) f.all, ap (λ (u : Tables). u.actions) f.all, f.small_conditions, f.small_actions)
-
-  pub transitions_there : t.transitions ≡ transitions_at s
-  transitions_there = ap (λ (u : Tables). u.transitions) f.all
-
-  pub last_there : t.last ≡ last_at F.transition s
-  last_there = ap (λ (u : Tables). u.last) f.all
-
-  pub tabled_is : (b : Bool) → (t.ok && eqb t.end (length s)) ≡ b → tabled F s ≡ b
-  tabled_is b e = sym (tabled_found F s t f.all) ∙ e
+  network_roled_found eb ex ey = rw (free_found, ex ∙ ap (λ (u : List ℕ). every (paired_suits C) (table paired_form n u a)) f.bytes, ey ∙ ap (λ (u : List ℕ). every (template_suits C) (table template_form m u b)) f.bytes, en, ea, em, eb, paired_well s few C numbered (transitions_of network_layout s), templates_well s few C numbered (last_of network_layout s))
 
 pub counted_is : {T R : Type 0} (F : Layout T R) (s : List ℕ) (b : Bool) → counts_hold (F.conditions (wide s)) F.actions F.transitions s ≡ b → counted F s ≡ b
 unfolding counted

@@ -2,7 +2,9 @@
 use mathlib.Core.Path.{◌≡◌, refl, sym, subst, ◌∙◌}
 use mathlib.Core.Bool.{Bool, true, false, false≢true, ◌&&◌}
 use mathlib.Core.List.{List, [], ◌∷◌}
+use mathlib.Core.Logic.{◌≢◌}
 use Prim.Native.Nat.{ℕ, zero, suc, ◌+◌, ◌-◌, ◌*◌, ◌≤◌, ◌<◌}
+use native.Mathlib.Nat.{sub-zero}
 use native.Mathlib.Omega.{arith}
 use borrow.Author.Tests.{leb-true, le-leb, eqb-true, eqb-false, eq-eqb}
 use lib.Dec.{eqb, leb}
@@ -105,41 +107,43 @@ module _ (all : List Triple) (ranged : every within all ≡ true) (counts : List
         most i true e = rw (eqb-true i (cell u) e, own) (omega arith)
         most i false e = rw (other i (eqb-false i (cell u) e)) (g.few i)
 
--- A loop over a table, with `left` triples to go from `place` on.
-pub record Tallying (n : ℕ) (s : List ℕ) (at : ℕ) (counts : List ℕ) (place left : ℕ) : Type 0 where
-  pub all : Tallied (table triple_form n s at) (table triple_form left s place) counts
-  pub room : place + 4 * left ≤ at + 4 * n
+-- A loop over a table, with the triples from number i on still to count, of which the first begins at `place`.
+pub record Tallying (n : ℕ) (s : List ℕ) (at : ℕ) (counts : List ℕ) (place i : ℕ) : Type 0 where
+  pub all : Tallied (table triple_form n s at) (table triple_form (n - i) s place) counts
+  pub room : place ≤ at + 4 * i
 
-pub tallying_start : (n : ℕ) (s : List ℕ) (at : ℕ) → Tallying n s at (replicate 256 0) at n
-tallying_start n s at = record { all = tallied_start (table triple_form n s at) (replicate 256 0) (length-replicate {A = ℕ} 256 0) (zeros 256); room = omega arith }
+pub tallying_start : (n : ℕ) (s : List ℕ) (at : ℕ) → Tallying n s at (replicate 256 0) at 0
+tallying_start n s at = record { all = rw (sub-zero n) (tallied_start (table triple_form n s at) (replicate 256 0) (length-replicate {A = ℕ} 256 0) (zeros 256)); room = omega arith }
 
-module _ (n : ℕ) (s : List ℕ) (at : ℕ) (ranged : every within (table triple_form n s at) ≡ true) (counts : List ℕ) (place left : ℕ) (g : Tallying n s at counts place left) where
+module _ (n : ℕ) (s : List ℕ) (at : ℕ) (ranged : every within (table triple_form n s at) ≡ true) (counts : List ℕ) (place i : ℕ) (g : Tallying n s at counts place i) where
   abbrev triples : List Triple
   triples = table triple_form n s at
 
   abbrev onwards : ℕ → List Triple
   onwards k = table triple_form k s place
 
-  pub tallying_end : left ≤ 0 → true ≡ apart triples
+  pub tallying_end : n ≤ i → true ≡ apart triples
   unfolding records
   tallying_end z =
-      let m : left ≡ 0 = omega arith in
+      let m : n - i ≡ 0 = omega arith in
       tallied_end triples ranged counts (subst (λ (k : ℕ). Tallied triples (onwards k) counts) m g.all)
 
-  module _ (z : 0 < left) (u : Triple) (a b : ℕ) (eu : u ≡ triple_form.value (drop place s)) (ea : a ≡ u.state) (eb : b ≡ u.unit) where
+  module _ (z : i < n) (u : Triple) (a b : ℕ) (eu : u ≡ triple_form.value (drop place s)) (ea : a ≡ u.state) (eb : b ≡ u.unit) where
     abbrev rest : List Triple
-    rest = table triple_form (left - 1) s (place + 4)
+    rest = table triple_form (n - (i + 1)) s (place + 4)
 
     present : Tallied triples (u ∷ rest) counts
     present =
-        let m : left ≡ suc (left - 1) = omega arith in
-        rw eu (rw (table_step triple_form (left - 1) s place) at (subst (λ (k : ℕ). Tallied triples (onwards k) counts) m g.all))
+        let m : n - i ≡ suc (n - (i + 1)) = omega arith in
+        rw eu (rw (table_step triple_form (n - (i + 1)) s place) at (subst (λ (k : ℕ). Tallied triples (onwards k) counts) m g.all))
 
     pub tallying_below : 16 * a + b < 256
     tallying_below = rw (ea, eb) (tallied_below triples ranged counts u rest present)
 
-    pub tallying_full : 4 ≤ get_or counts (16 * a + b) 0 → false ≡ apart triples
-    tallying_full k = tallied_full triples ranged counts u rest present (rw (ea, eb) at k)
+    pub tallying_full : get_or counts (16 * a + b) 0 ≡ 4 → false ≡ apart triples
+    tallying_full k = tallied_full triples ranged counts u rest present (let e = rw (ea, eb) at k in omega arith)
 
-    pub tallying_next : get_or counts (16 * a + b) 0 < 4 → Tallying n s at (set counts (16 * a + b) (get_or counts (16 * a + b) 0 + 1)) (place + 4) (left - 1)
-    tallying_next k = record { all = rw (ea, eb) (tallied_next triples ranged counts u rest present (rw (ea, eb) at k)); room = omega (arith, g.room) }
+    pub tallying_next : (get_or counts (16 * a + b) 0 ≡ 4 → ⊥) → Tallying n s at (set counts (16 * a + b) (get_or counts (16 * a + b) 0 + 1)) (place + 4) (i + 1)
+    tallying_next k =
+        let e : get_or counts (cell u) 0 ≢ 4 = rw (ea, eb) at k in
+        record { all = rw (ea, eb) (tallied_next triples ranged counts u rest present (omega (arith, g.all.few (cell u)))); room = omega (arith, g.room) }

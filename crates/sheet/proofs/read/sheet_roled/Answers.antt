@@ -1,10 +1,8 @@
 -- `read::sheet_roled` meets its contract. Assumes nothing.
-use Rattle.sheet.proofs.Readers.Refusals.{sheet_roled_found, texts_there, transitions_there, last_there}
-use Rattle.sheet.specs.Reading.{sheet_layout}
+use Rattle.sheet.proofs.Readers.Refusals.{sheet_roled_found}
 use Rattle.sheet.proofs.read.sheet_roled.Goals as goal
 
 pub returns : goal.returns
 returns c =
     let f = c.requires.0 in
-    let t = texts_there sheet_layout _ _ f in
-    sheet_roled_found _ c.requires.1 _ c.lent-l.ensures _ c.has_wide.ensures _ _ _ c.index-i.ensures c.number-n.ensures.0 t.0 _ _ c.number.ensures.0 t.1 _ _ _ _ c.number-2.ensures.0 c.number-3.ensures.0 (transitions_there sheet_layout _ _ f) _ _ _ c.actions_free.ensures (last_there sheet_layout _ _ f) c.guards_suit.ensures c.triples_suit.ensures
+    sheet_roled_found _ c.requires.1 _ f.conditions _ c.conditions-conditions.ensures _ _ c.number.ensures.0 f.actions _ _ _ _ c.number-2.ensures.0 c.number-3.ensures.0 f.transitions _ _ _ c.actions_free.ensures f.last c.guards_suit.ensures c.triples_suit.ensures

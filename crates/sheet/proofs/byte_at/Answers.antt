@@ -1,5 +1,0 @@
--- `byte_at` meets its contract. Assumes nothing.
-use Rattle.sheet.proofs.byte_at.Goals as goal
-
-pub returns : goal.returns
-returns c = rw c.place.ensures.0 at c.byte.ensures

@@ -1,5 +1,0 @@
--- `record_at` meets its contract. Assumes nothing.
-use Rattle.sheet.proofs.record_at.Goals as goal
-
-pub returns : goal.returns
-returns c = rw c.place.ensures.0 at c.record.ensures

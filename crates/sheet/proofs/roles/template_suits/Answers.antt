@@ -1,7 +1,0 @@
--- `roles::template_suits` meets its contract. Assumes nothing.
-use mathlib.Core.Path.{ap}
-use mathlib.Core.Bool.{not}
-use Rattle.sheet.proofs.roles.template_suits.Goals as goal
-
-pub returns : goal.returns
-returns c = ap not c.names_monitor.ensures

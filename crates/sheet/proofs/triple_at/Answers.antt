@@ -1,5 +1,0 @@
--- `triple_at` meets its contract. Assumes nothing.
-use Rattle.sheet.proofs.triple_at.Goals as goal
-
-pub returns : goal.returns
-returns c = rw c.place.ensures.0 at c.triple.ensures

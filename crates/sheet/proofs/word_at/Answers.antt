@@ -1,5 +1,0 @@
--- `word_at` meets its contract. Assumes nothing.
-use Rattle.sheet.proofs.word_at.Goals as goal
-
-pub returns : goal.returns
-returns c = rw c.place.ensures.0 at c.word.ensures

@@ -1,5 +1,0 @@
--- `words_at` meets its contract. Assumes nothing.
-use Rattle.sheet.proofs.words_at.Goals as goal
-
-pub returns : goal.returns
-returns c = rw (c.place.ensures.0, c.wide.ensures.0) at c.words.ensures
