@@ -2,118 +2,76 @@
 // answer of each with its eight bytes. reference/CASES.md has the format of the frames and lines.
 #![tactic(auto)]
 
-ghost use Rattle.std.specs.Prelude.{◌+◌, ◌≤◌, ◌<◌, length, IfOk};
-
 use bench::{Listed, Listing};
+use frames::{Frame, Frames, Reader};
 use std::io;
 use std::io::{BufWriter, Read, Write};
 
 // The most lines of a walk.
 const LINES: usize = 1000;
 
-// Reads at most 64 pages of frames, and carries out one after the other.
+// What is asked of the conditions of so many bytes: all in order, the first, or the one after another.
+#[derive(Drop)]
+enum Case {
+    Walk(u8),
+    First(u8),
+    Next(u8, [u8; 8]),
+}
+
+impl<'a> Frame<'a> for Case {
+    fn read(page: &mut Reader<'a>) -> Option<Case> {
+        match page.byte()? {
+            0 => Some(Case::Walk(page.byte()?)),
+            1 => Some(Case::First(page.byte()?)),
+            2 => Some(Case::Next(page.byte()?, page.array()?)),
+            _ => None,
+        }
+    }
+}
+
+// Reads at most 64 pages of frames, and answers one after the other.
 fn main(rt: HostRuntime) -> io::Result<()> {
     let mut input = Vec::new(rt.alloc());
-    rt.stdin().take(64 * 65536).read_to_end(&mut input)?;
+    rt.stdin().take(frames::INPUT).read_to_end(&mut input)?;
     let mut out = BufWriter::new(rt.alloc(), rt.stdout())?;
-    for page in input.chunks(65536) {
-        script(&mut out, page)?;
+    for page in input.chunks(frames::PAGE) {
+        for case in Frames::<Case>::new(page) {
+            answer(&mut out, case)?;
+        }
     }
     out.flush()
 }
 
-// Carries out the frames of a page, to the end or to a byte that begins none.
-fn script<W: Write>(out: &mut W, s: &[u8]) -> io::Result<()>
-    requires { length s.now ≤ 65536 }
-{
-    let mut at = 0;
-    while at < s.len() {
-        at = frame(out, s, at)?;
-    }
-    Ok(())
-}
-
-// Runs the frame at a place: the place behind it. One that is cut short or of another form ends the page.
-fn frame<W: Write>(out: &mut W, s: &[u8], at: usize) -> io::Result<usize>
-    requires { (length s.now ≤ 65536) × (at < length s.now) }
-    ensures { IfOk result (λ next. at < next) }
-{
-    let next = at + size(byte(s, at));
-    if s.len() < next {
-        return Ok(s.len());
-    }
-    let n = byte(s, at + 1);
-    match byte(s, at) {
-        0 => walk(out, n)?,
-        1 => print_listing(out, bench::first(n))?,
-        _ => print_listing(out, bench::next(n, eight(s, at + 2)))?,
-    }
-    Ok(next)
-}
-
-// How many bytes a frame has: a code, a number of bytes and, of the last form, a condition. More than
-// a page where no frame begins so.
-fn size(code: u8) -> usize
-    ensures { (0 < result) × (result < 100000) }
-{
-    match code {
-        0 => 2,
-        1 => 2,
-        2 => 10,
-        _ => 65537,
+fn answer<W: Write>(out: &mut W, case: Case) -> io::Result<()> {
+    match case {
+        Case::Walk(n) => walk(out, n),
+        Case::First(n) => print_listing(out, bench::first(n)),
+        Case::Next(n, given) => print_listing(out, bench::next(n, given)),
     }
 }
 
 // The first condition and, from each, the next, to the line that says there is none.
 fn walk<W: Write>(out: &mut W, n: u8) -> io::Result<()> {
-    let mut r = bench::first(n);
+    let mut listing = bench::first(n);
     for _ in 0..LINES {
-        print_listing(out, r)?;
-        if !is_condition(r.answer) {
+        print_listing(out, listing)?;
+        if !matches!(listing.answer, Listed::Is) {
             return Ok(());
         }
-        r = bench::next(n, r.bytes);
+        listing = bench::next(n, listing.bytes);
     }
     Ok(())
 }
 
-fn is_condition(a: Listed) -> bool {
-    match a {
-        Listed::Is => true,
-        Listed::Last => false,
-        Listed::Refused(_) => false,
-    }
-}
-
-// Eight bytes from a place on.
-fn eight(s: &[u8], at: usize) -> [u8; 8]
-    requires { at ≤ 1000000 }
-{
-    let mut bytes = [0u8; 8];
-    for i in 0..8 {
-        bytes[i] = byte(s, at + i);
-    }
-    bytes
-}
-
-fn print_listing<W: Write>(out: &mut W, r: Listing) -> io::Result<()> {
-    match r.answer {
+// The answer, and a space and two digits for each of eight bytes.
+fn print_listing<W: Write>(out: &mut W, listing: Listing) -> io::Result<()> {
+    match listing.answer {
         Listed::Is => write!(out, "is")?,
         Listed::Last => write!(out, "none")?,
         Listed::Refused(n) => write!(out, "refused {n}")?,
     }
-    print_bytes(out, &r.bytes)
-}
-
-// A space and two digits for each of eight bytes, and a newline.
-fn print_bytes<W: Write>(out: &mut W, bytes: &[u8; 8]) -> io::Result<()> {
-    for b in bytes {
-        write!(out, " {b:02x}")?;
+    for byte in &listing.bytes {
+        write!(out, " {byte:02x}")?;
     }
     writeln!(out)
-}
-
-// The byte at a place, 0 past the end.
-fn byte(s: &[u8], at: usize) -> u8 {
-    if at < s.len() { s[at] } else { 0 }
 }
