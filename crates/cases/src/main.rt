@@ -24,7 +24,7 @@ impl<'a> Frame<'a> for Case<'a> {
                 Some(Case::Input(page.part(usize::from(size))?))
             }
             1 => {
-                let [high, middle, low] = page.array()?;
+                let [high, middle, low] = page.array::<3>()?;
                 Some(Case::Zeros(u32::from_be_bytes([0, high, middle, low])))
             }
             _ => None,

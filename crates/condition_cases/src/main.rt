@@ -8,6 +8,7 @@ use std::io;
 use std::io::{BufWriter, Read, Write};
 
 // What is asked of an expression.
+#[derive(Drop)]
 enum Question {
     Condition,
     Value,
