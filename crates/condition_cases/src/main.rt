@@ -89,8 +89,12 @@ fn answer<W: Write>(out: &mut W, case: &Case) -> io::Result<()> {
 }
 
 fn print_condition<W: Write>(out: &mut W, case: &Case) -> io::Result<()> {
-    let found =
-        condition::evaluate_condition(case.text, &case.programs, &case.monitors, &case.kept);
+    let found = condition::evaluate_condition(
+        case.text,
+        &case.programs,
+        &case.monitors,
+        &case.kept,
+    );
     match found.answer {
         ConditionAnswer::Is(holds) => write!(out, "{holds}")?,
         ConditionAnswer::Refused(n) => write!(out, "refused {n}")?,
