@@ -77,9 +77,10 @@ impl<'a> Reader<'a> {
         Some(u32::from_be_bytes(self.array()?))
     }
 
-    // A number in one byte, and so many words.
+    // A number in one byte, and so many words. Where one is missing, those before it are gone.
     pub fn words(&mut self) -> Option<Words>
-        ensures { IfSome result (λ words. (length words.items ≡ slice_index self.old 0) × (self.new ≡ drop (1 + 4 * length words.items) self.old)) }
+        ensures read { IfSome result (λ words. (length words.items ≡ slice_index self.old 0) × (self.new ≡ drop (1 + 4 * length words.items) self.old)) }
+        ensures no_more { length self.new ≤ length self.old }
     {
         let mut words = Words::new();
         for _ in 0..self.byte()? {
