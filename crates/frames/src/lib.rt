@@ -11,7 +11,8 @@ use std::marker::{Model, PhantomData};
 // How many bytes a page of frames has. No frame goes over its end.
 pub const PAGE: usize = 65536;
 
-// The most bytes that a program reads: 64 pages.
+// The most bytes that a program reads: 64 pages. Each `main` reads them itself, since no library asks for
+// memory.
 pub const INPUT: u64 = 64 * 65536;
 
 // Words with their number before them in one byte.
