@@ -2,8 +2,7 @@
 // answer of each with its eight bytes. reference/CASES.md has the format of the frames and lines.
 #![tactic(auto)]
 
-ghost use Rattle.std.specs.Prelude.{◌+◌, ◌≤◌, ◌<◌, length, IfOk};
-
+use frames::{Frame, Frames, Reader};
 use refusal::Refusal;
 use std::io;
 use std::io::{BufWriter, Read, Write};
@@ -11,56 +10,43 @@ use std::io::{BufWriter, Read, Write};
 // The most lines of a walk.
 const LINES: usize = 1000;
 
-// Reads at most 64 pages of frames, and carries out one after the other.
+// What is asked of the conditions of so many bytes: all in order, the first, or the one after another.
+#[derive(Drop)]
+enum Case {
+    Walk(u8),
+    First(u8),
+    Next(u8, [u8; 8]),
+}
+
+impl<'a> Frame<'a> for Case {
+    fn read(page: &mut Reader<'a>) -> Option<Case> {
+        match page.byte()? {
+            0 => Some(Case::Walk(page.byte()?)),
+            1 => Some(Case::First(page.byte()?)),
+            2 => Some(Case::Next(page.byte()?, page.array()?)),
+            _ => None,
+        }
+    }
+}
+
+// Reads at most 64 pages of frames, and answers one after the other.
 fn main(rt: HostRuntime) -> io::Result<()> {
     let mut input = Vec::new(rt.alloc());
-    rt.stdin().take(64 * 65536).read_to_end(&mut input)?;
+    rt.stdin().take(frames::INPUT).read_to_end(&mut input)?;
     let mut out = BufWriter::new(rt.alloc(), rt.stdout())?;
-    for page in input.chunks(65536) {
-        script(&mut out, page)?;
+    for page in input.chunks(frames::PAGE) {
+        for case in Frames::<Case>::new(page) {
+            answer(&mut out, case)?;
+        }
     }
     out.flush()
 }
 
-// Carries out the frames of a page, to the end or to a byte that begins none.
-fn script<W: Write>(out: &mut W, s: &[u8]) -> io::Result<()>
-    requires { length s.now ≤ 65536 }
-{
-    let mut at = 0;
-    while at < s.len() {
-        at = frame(out, s, at)?;
-    }
-    Ok(())
-}
-
-// Runs the frame at a place: the place behind it. One that is cut short or of another form ends the page.
-fn frame<W: Write>(out: &mut W, s: &[u8], at: usize) -> io::Result<usize>
-    requires { (length s.now ≤ 65536) × (at < length s.now) }
-    ensures { IfOk result (λ next. at < next) }
-{
-    let next = at + size(byte(s, at));
-    if s.len() < next {
-        return Ok(s.len());
-    }
-    let n = byte(s, at + 1);
-    match byte(s, at) {
-        0 => walk(out, n)?,
-        1 => print_answer(out, bench::first(n).map(Some))?,
-        _ => print_answer(out, bench::next(n, eight(s, at + 2)))?,
-    }
-    Ok(next)
-}
-
-// How many bytes a frame has: a code, a number of bytes and, of the last form, a condition. More than
-// a page where no frame begins so.
-fn size(code: u8) -> usize
-    ensures { (0 < result) × (result < 100000) }
-{
-    match code {
-        0 => 2,
-        1 => 2,
-        2 => 10,
-        _ => 65537,
+fn answer<W: Write>(out: &mut W, case: Case) -> io::Result<()> {
+    match case {
+        Case::Walk(n) => walk(out, n),
+        Case::First(n) => print_answer(out, bench::first(n).map(Some)),
+        Case::Next(n, given) => print_answer(out, bench::next(n, given)),
     }
 }
 
@@ -77,37 +63,17 @@ fn walk<W: Write>(out: &mut W, n: u8) -> io::Result<()> {
     Ok(())
 }
 
-// Eight bytes from a place on.
-fn eight(s: &[u8], at: usize) -> [u8; 8]
-    requires { at ≤ 1000000 }
-{
-    let mut bytes = [0u8; 8];
-    for i in 0..8 {
-        bytes[i] = byte(s, at + i);
-    }
-    bytes
-}
-
-// An answer of either operation, with zeros for bytes where it gives none.
+// An answer of either operation, and a space and two digits for each of its eight bytes, zeros where it
+// gives none.
 fn print_answer<W: Write>(out: &mut W, answer: Result<Option<[u8; 8]>, Refusal>) -> io::Result<()> {
     match answer {
         Ok(Some(_)) => write!(out, "is")?,
         Ok(None) => write!(out, "none")?,
-        Err(refusal) => write!(out, "refused {}", refusal.number())?,
+        Err(refusal) => write!(out, "{refusal}")?,
     }
     let bytes = answer.ok().flatten().unwrap_or([0; 8]);
-    print_bytes(out, &bytes)
-}
-
-// A space and two digits for each of eight bytes, and a newline.
-fn print_bytes<W: Write>(out: &mut W, bytes: &[u8; 8]) -> io::Result<()> {
-    for b in bytes {
-        write!(out, " {b:02x}")?;
+    for byte in &bytes {
+        write!(out, " {byte:02x}")?;
     }
     writeln!(out)
-}
-
-// The byte at a place, 0 past the end.
-fn byte(s: &[u8], at: usize) -> u8 {
-    if at < s.len() { s[at] } else { 0 }
 }

@@ -2,100 +2,59 @@
 // prints the lines of each. reference/CASES.md has the format.
 #![tactic(auto)]
 
-ghost use Rattle.std.specs.Prelude.{◌≤◌, ◌<◌, length};
-
+use frames::{Frame, Frames, Reader};
 use std::io;
 use std::io::{BufWriter, Read, Write};
 
-// Reads at most 64 pages of frames, and carries out one after the other.
+// The most zeros that an input may be: one more than the longest input that is judged.
+const ZEROS: usize = 65537;
+
+// An input, or that it is so many zeros.
+#[derive(Drop)]
+enum Case<'a> {
+    Input(&'a [u8]),
+    Zeros(u32),
+}
+
+impl<'a> Frame<'a> for Case<'a> {
+    fn read(page: &mut Reader<'a>) -> Option<Case<'a>> {
+        match page.byte()? {
+            0 => {
+                let size = page.short()?;
+                Some(Case::Input(page.part(usize::from(size))?))
+            }
+            1 => {
+                let [high, middle, low] = page.array::<3>()?;
+                Some(Case::Zeros(u32::from_be_bytes([0, high, middle, low])))
+            }
+            _ => None,
+        }
+    }
+}
+
+// Reads at most 64 pages of frames, and answers one after the other.
 fn main(rt: HostRuntime) -> io::Result<()> {
     let mut input = Vec::new(rt.alloc());
-    rt.stdin().take(64 * 65536).read_to_end(&mut input)?;
+    rt.stdin().take(frames::INPUT).read_to_end(&mut input)?;
     let mut out = BufWriter::new(rt.alloc(), rt.stdout())?;
-    for page in input.chunks(65536) {
-        script(&mut out, page)?;
+    for page in input.chunks(frames::PAGE) {
+        for case in Frames::<Case>::new(page) {
+            answer(&mut out, case)?;
+        }
     }
     out.flush()
 }
 
-// Carries out the frames of a page, to the end or to one that is cut short.
-fn script<W: Write>(out: &mut W, s: &[u8]) -> io::Result<()>
-    requires { length s.now ≤ 65536 }
-{
-    let mut at = 0;
-    while at < s.len() {
-        let next = at + size(s, at);
-        if s.len() < next {
-            return Ok(());
-        }
-        carry_out(out, s, at, next)?;
-        at = next;
+// Of too many zeros there are none.
+fn answer<W: Write>(out: &mut W, case: Case) -> io::Result<()> {
+    match case {
+        Case::Input(input) => print_lines(out, input),
+        Case::Zeros(n) => print_lines(out, [0; ZEROS].get(..n as usize).unwrap_or(&[])),
     }
-    Ok(())
-}
-
-// How many bytes the frame at a place has; more than there are where its code is wrong.
-fn size(s: &[u8], at: usize) -> usize
-    requires { at ≤ 65536 }
-    ensures { (0 < result) × (result ≤ 65538) }
-{
-    match byte(s, at) {
-        0 => 3 + short(s, at + 1),
-        1 => 4,
-        _ => 65537,
-    }
-}
-
-// Prints the lines for the frame between two places.
-fn carry_out<W: Write>(out: &mut W, s: &[u8], at: usize, next: usize) -> io::Result<()>
-    requires { at ≤ 65536 }
-{
-    if byte(s, at) == 0 {
-        print_lines(out, part(s, at + 3, next))
-    } else {
-        print_zeros(out, byte(s, at + 1) * 65536 + short(s, at + 2))
-    }
-}
-
-// Prints the lines for so many zeros, at most 65,537.
-fn print_zeros<W: Write>(out: &mut W, n: usize) -> io::Result<()> {
-    let zeros = [0u8; 65537];
-    print_lines(out, part(&zeros, 0, n))
 }
 
 fn print_lines<W: Write>(out: &mut W, input: &[u8]) -> io::Result<()> {
-    let mut room = [0u8; 300];
+    let mut room = [0; 300];
     let n = lines::lines(input, &mut room);
     out.write_all(&room[..n])
-}
-
-// The bytes between two places; none where there are no such places.
-fn part(s: &[u8], start: usize, end: usize) -> &[u8] {
-    if s.len() < end {
-        return &s[..0];
-    }
-    if end < start {
-        return &s[..0];
-    }
-    &s[start..end]
-}
-
-fn short(s: &[u8], at: usize) -> usize
-    requires { at ≤ 3000000 }
-    ensures { result < 65536 }
-{
-    byte(s, at) * 256 + byte(s, at + 1)
-}
-
-// The byte at a place, 0 past the end.
-fn byte(s: &[u8], at: usize) -> usize
-    ensures { result < 256 }
-{
-    if at < s.len() { wide(s[at]) } else { 0 }
-}
-
-fn wide(x: u8) -> usize
-    ensures { result < 256 }
-{
-    x as usize
 }
