@@ -2,7 +2,7 @@
 // prints a line for each. reference/CASES.md has the format of the frames and of the lines.
 #![tactic(auto)]
 
-use condition::{ActionAnswer, ConditionAnswer, Lent, ValueAnswer};
+use condition::Lent;
 use frames::{Frame, Frames, Reader, Words};
 use std::io;
 use std::io::{BufWriter, Read, Write};
@@ -96,8 +96,8 @@ fn print_condition<W: Write>(out: &mut W, case: &Case) -> io::Result<()> {
         &case.kept,
     );
     match found.answer {
-        ConditionAnswer::Is(holds) => write!(out, "{holds}")?,
-        ConditionAnswer::Refused(n) => write!(out, "refused {n}")?,
+        Ok(holds) => write!(out, "{holds}")?,
+        Err(refusal) => write!(out, "{refusal}")?,
     }
     writeln!(out, " count {}", found.count)
 }
@@ -105,8 +105,8 @@ fn print_condition<W: Write>(out: &mut W, case: &Case) -> io::Result<()> {
 fn print_value<W: Write>(out: &mut W, case: &Case) -> io::Result<()> {
     let found = condition::evaluate_value(case.text, &case.programs, &case.monitors, &case.kept);
     match found.answer {
-        ValueAnswer::Is(word) => write!(out, "{}", word.cast_signed())?,
-        ValueAnswer::Refused(n) => write!(out, "refused {n}")?,
+        Ok(word) => write!(out, "{}", word.cast_signed())?,
+        Err(refusal) => write!(out, "{refusal}")?,
     }
     writeln!(out, " count {}", found.count)
 }
@@ -120,13 +120,13 @@ fn print_performed<W: Write>(out: &mut W, case: &Case) -> io::Result<()> {
     let count = case.monitors.len();
     let done = condition::perform(case.text, &case.programs, variables, count, &case.kept);
     match done.answer {
-        ActionAnswer::Done => {
+        Ok(()) => {
             write!(out, "done")?;
             for word in done.variables.iter().take(count) {
                 write!(out, " {}", word.cast_signed())?;
             }
         }
-        ActionAnswer::Refused(n) => write!(out, "refused {n}")?,
+        Err(refusal) => write!(out, "{refusal}")?,
     }
     writeln!(out, " count {}", done.count)
 }

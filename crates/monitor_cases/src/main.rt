@@ -9,7 +9,8 @@ use monitor::{Arms, WatchState};
 use scripts::lines::NamedAt;
 use scripts::set::{Field, Setting};
 use scripts::{Engine, Offered, Shared};
-use sheet::{Reading, Record};
+use refusal::Refusal;
+use sheet::Record;
 use std::io;
 use std::io::{BufWriter, Read, Write};
 use step::Counted;
@@ -37,7 +38,7 @@ impl Engine for Monitor {
         WatchState::zero()
     }
 
-    fn fresh(text: &[u8]) -> (Reading, WatchState) {
+    fn fresh(text: &[u8]) -> (Result<(), Refusal>, WatchState) {
         let made = WatchState::fresh(text);
         (made.reading, made.state)
     }

@@ -9,7 +9,8 @@ use network::{Checker, NetworkState};
 use scripts::lines::{Kept, Named, NamedAt};
 use scripts::set::{Field, Setting};
 use scripts::{Engine, Offered, Shared};
-use sheet::{Reading, Record};
+use refusal::Refusal;
+use sheet::Record;
 use std::io;
 use std::io::{BufWriter, Read, Write};
 use step::Counted;
@@ -41,7 +42,7 @@ impl Engine for Network {
         NetworkState::zero()
     }
 
-    fn fresh(text: &[u8]) -> (Reading, NetworkState) {
+    fn fresh(text: &[u8]) -> (Result<(), Refusal>, NetworkState) {
         let made = NetworkState::fresh(text);
         (made.reading, made.state)
     }

@@ -4,10 +4,9 @@ use crate::Engine;
 use crate::frame::{Action, Event};
 use crate::lines::{CallAt, Judged, Named};
 use crate::set::Setting;
-use sheet::Reading;
 use std::io;
 use std::io::Write;
-use step::{Answer, Cause, Counted, Outcome, RunAnswer};
+use step::{Cause, Counted, RunAnswer};
 
 #[derive(Drop)]
 pub(crate) struct Bench<E: Engine> {
@@ -48,8 +47,8 @@ impl<E: Engine> Bench<E> {
     fn start<W: Write>(&mut self, out: &mut W, text: &[u8]) -> io::Result<()> {
         let (reading, state) = E::fresh(text);
         match reading {
-            Reading::Accepted => write!(out, "accepted")?,
-            Reading::Refused(n) => write!(out, "refused {n}")?,
+            Ok(()) => write!(out, "accepted")?,
+            Err(refusal) => write!(out, "{refusal}")?,
         }
         self.state = state;
         print_state::<E, W>(out, &state)
@@ -70,8 +69,8 @@ impl<E: Engine> Bench<E> {
     fn offer<W: Write>(&self, out: &mut W, text: &[u8], event: &Event) -> io::Result<E::State> {
         let offered = E::offer(text, self.state, event.record, &event.values);
         match offered.answer {
-            Answer::Taken => write!(out, "taken")?,
-            Answer::Refused(n) => write!(out, "refused {n}")?,
+            Ok(()) => write!(out, "taken")?,
+            Err(refusal) => write!(out, "{refusal}")?,
         }
         write!(out, " count {}", offered.count)?;
         print_state::<E, W>(out, &offered.state)?;
@@ -91,8 +90,8 @@ fn print_run<W: Write>(out: &mut W, ran: Counted) -> io::Result<()> {
         RunAnswer::Clean(events, state, opened) => {
             write!(out, "clean {events} state {state} open {opened}")?;
         }
-        RunAnswer::Refused(n) => write!(out, "refused {n}")?,
-        RunAnswer::RefusedAt(n, record) => write!(out, "refused {n} at {record}")?,
+        RunAnswer::Refused(refusal) => write!(out, "{refusal}")?,
+        RunAnswer::RefusedAt(refusal, record) => write!(out, "{refusal} at {record}")?,
     }
     writeln!(out, " count {}", ran.count)
 }
@@ -113,7 +112,7 @@ fn print_state<E: Engine, W: Write>(out: &mut W, state: &E::State) -> io::Result
     }
     E::print_behind_calls(out, state)?;
     write!(out, "{}", Named("p", shared.position))?;
-    if let Outcome::Judged(verdict) = shared.outcome {
+    if let Some(verdict) = shared.outcome {
         write!(out, " {} entry {}", Judged(verdict), verdict.entry)?;
     }
     writeln!(out)

@@ -4,10 +4,11 @@
 
 ghost use Rattle.std.specs.Prelude.{◌≤◌, length, IfSome};
 
-use sheet::{Reading, Record};
+use refusal::Refusal;
+use sheet::Record;
 use std::io;
 use std::io::Write;
-use step::{Answer, Call, Counted, Outcome};
+use step::{Call, Counted, Verdict};
 
 mod bench;
 mod frame;
@@ -27,13 +28,13 @@ pub struct Shared {
     pub opened: u8,
     pub calls: [Call; step::CALLS],
     pub position: u32,
-    pub outcome: Outcome,
+    pub outcome: Option<Verdict>,
 }
 
 // What offering an event answers, how much was evaluated, and the state that comes back.
 #[derive(Drop)]
 pub struct Offered<S> {
-    pub answer: Answer,
+    pub answer: Result<(), Refusal>,
     pub count: u32,
     pub state: S,
 }
@@ -47,7 +48,7 @@ pub trait Engine: Sized {
     fn zero() -> Self::State;
 
     // What reading the text answers, and its fresh state.
-    fn fresh(text: &[u8]) -> (Reading, Self::State);
+    fn fresh(text: &[u8]) -> (Result<(), Refusal>, Self::State);
 
     fn offer(
         text: &[u8],

@@ -3,7 +3,7 @@
 ghost use Rattle.std.specs.Prelude.{◌≡◌, ◌%◌};
 
 use crate::Shared;
-use step::{Call, Cause, Outcome, Verdict};
+use step::{Call, Cause, Verdict};
 
 // The fields that a state has in both engines: those of a call are at the place i, the last four make a
 // verdict or change it.
@@ -64,12 +64,12 @@ impl Shared {
                 }
             }
             Field::Position => self.position = to.value,
-            Field::NoVerdict => self.outcome = Outcome::Open,
+            Field::NoVerdict => self.outcome = None,
             Field::BadState => self.judge(to.value, Cause::BadState(to.i)),
             Field::Triple => self.judge(to.value, Cause::Triple(to.i)),
             Field::Both => self.judge(to.value, Cause::Both(to.i, to.j)),
             Field::VerdictEntry => {
-                if let Outcome::Judged(verdict) = &mut self.outcome {
+                if let Some(verdict) = &mut self.outcome {
                     verdict.entry = to.value;
                 }
             }
@@ -77,7 +77,7 @@ impl Shared {
     }
 
     fn judge(&mut self, position: u32, cause: Cause) {
-        self.outcome = Outcome::Judged(Verdict {
+        self.outcome = Some(Verdict {
             position,
             cause,
             entry: 0,

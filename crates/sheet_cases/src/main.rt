@@ -3,7 +3,8 @@
 #![tactic(auto)]
 
 use frames::{Frame, Frames, Reader};
-use sheet::{LogReading, Places, Reading};
+use refusal::Refusal;
+use sheet::Places;
 use std::io;
 use std::io::{BufWriter, Read, Write};
 
@@ -55,16 +56,20 @@ fn answer<W: Write>(out: &mut W, case: Case) -> io::Result<()> {
     }
 }
 
-fn print_reading<W: Write>(out: &mut W, reading: Reading, places: Places) -> io::Result<()> {
+fn print_reading<W: Write>(
+    out: &mut W,
+    reading: Result<(), Refusal>,
+    places: Places,
+) -> io::Result<()> {
     match reading {
-        Reading::Accepted => writeln!(out, "accepted {} {}", places.transitions, places.last),
-        Reading::Refused(n) => writeln!(out, "refused {n}"),
+        Ok(()) => writeln!(out, "accepted {} {}", places.transitions, places.last),
+        Err(refusal) => writeln!(out, "{refusal}"),
     }
 }
 
-fn print_log<W: Write>(out: &mut W, reading: LogReading) -> io::Result<()> {
+fn print_log<W: Write>(out: &mut W, reading: Result<usize, Refusal>) -> io::Result<()> {
     match reading {
-        LogReading::Records(n) => writeln!(out, "records {n}"),
-        LogReading::Refused(n) => writeln!(out, "refused {n}"),
+        Ok(n) => writeln!(out, "records {n}"),
+        Err(refusal) => writeln!(out, "{refusal}"),
     }
 }

@@ -3,9 +3,9 @@
 #![tactic(auto)]
 
 use frames::{Frame, Frames, Reader};
+use refusal::Refusal;
 use std::io;
 use std::io::{BufWriter, Read, Write};
-use translation::Translated;
 
 // For whom a sheet is translated.
 #[derive(Clone, Copy)]
@@ -81,10 +81,10 @@ fn pattern(first: u8) -> [u8; 65536] {
     room
 }
 
-fn print_answer<W: Write>(out: &mut W, answer: Translated) -> io::Result<()> {
+fn print_answer<W: Write>(out: &mut W, answer: Result<usize, Refusal>) -> io::Result<()> {
     match answer {
-        Translated::Written(n) => write!(out, "written {n}"),
-        Translated::Refused(n) => write!(out, "refused {n}"),
+        Ok(n) => write!(out, "written {n}"),
+        Err(refusal) => write!(out, "{refusal}"),
     }
 }
 
