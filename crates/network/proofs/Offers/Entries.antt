@@ -1,6 +1,6 @@
 -- The values at entry of a checker, by its call among the open ones. Assumes nothing.
-use Rattle.std.proofs.Common.{◌≡◌, ℕ, ◌≤◌, ◌<◌, min, Bool, true, false, cond, ◌&&◌, List, [], ◌∷◌, Option, Some, None, Bor, eqb, ltb, length, get_or, take, refl, sym, ap, ◌∙◌, arith}
-use mathlib.Core.Option.{none, some}
+use Rattle.std.proofs.Common.{◌≡◌, ℕ, ◌≤◌, ◌<◌, min, Bool, true, false, cond, ◌&&◌, List, [], ◌∷◌, Option, Some, None, Bor, eqb, ltb, get_or, take, refl, arith}
+use mathlib.Core.Option.{some}
 use borrow.Author.Tests.{lt-ltb, ltb-true}
 use lib.ListN.{replicate}
 use Rattle.std.specs.List.{find}

@@ -1,5 +1,5 @@
 -- `entry::entry_values` meets its contract. Assumes nothing.
-use Rattle.std.proofs.Common.{rules, tests, ◌≡◌, ◌∙◌, ap, arith, eqb, get_or, take}
+use Rattle.std.proofs.Common.{rules, tests, arith, eqb, get_or}
 use Rattle.std.proofs.lemmas.Iterator.{YieldsList-from_slice, YieldsList-from_take}
 use Rattle.std.proofs.lemmas.Iterator.Search.{find_from_yields_List}
 use Rattle.step.specs.declared.Call.{Call}

@@ -1,5 +1,4 @@
 -- `sound::in_order` meets its contract. Assumes nothing.
-use Rattle.std.proofs.Common.{arith}
 use Rattle.network.proofs.SoundTests.Counting.{falls_end, falls_next, falls_fails}
 use Rattle.network.proofs.sound.in_order.Goals as goal
 use Rattle.network.proofs.sound.in_order.Invariants.{call_of}
