@@ -2,7 +2,6 @@
 // the event makes of them is unpacked.
 
 ghost use Rattle.std.specs.Prelude.{◌≡◌, true, ◌<◌, length};
-ghost use Rattle.sheet.specs.Bytes.{half};
 ghost use Rattle.sheet.specs.Decode.{network_of};
 ghost use Rattle.sheet.specs.Reading.{reading, network_layout};
 ghost use Rattle.step.specs.Calls.{event_of};

@@ -1,12 +1,12 @@
 // A state as the engine's words, and back.
 
-ghost use Rattle.std.specs.Prelude.{◌≡◌, true, ◌&&◌, map, ◌+◌, ◌≤◌, ◌<◌, ltb, length, take, drop};
+ghost use Rattle.std.specs.Prelude.{◌≡◌, true, ◌&&◌, map, ◌+◌, ◌≤◌, ltb, length, take};
 ghost use Rattle.std.proofs.lemmas.List.Edits.{sets};
-ghost use Rattle.sheet.specs.Table.{every, fit};
+ghost use Rattle.sheet.specs.Table.{every};
 ghost use Rattle.step.specs.Calls.{most_calls, most_armed};
 ghost use Rattle.engine.specs.Walk.{entries, words};
 ghost use Rattle.network.specs.Grouped.{checker};
-ghost use Rattle.network.specs.Padded.{zero_checker, most_checkers};
+ghost use Rattle.network.specs.Padded.{most_checkers};
 ghost use Rattle.network.specs.Packed.{running_of, arms_of, own_of, call_words, unpacked};
 
 use crate::{Checker, NetworkState};

@@ -1,15 +1,14 @@
 // Whether a state is sound on an accepted network.
 
-ghost use Rattle.std.specs.Prelude.{◌≡◌, map, ◌<◌, eqb, leb, ltb, length, take, drop};
-ghost use Rattle.condition.specs.Answer.{most_variables};
+ghost use Rattle.std.specs.Prelude.{◌≡◌, map, eqb, leb, ltb, length};
 ghost use Rattle.sheet.specs.Table.{every};
 ghost use Rattle.sheet.specs.Decode.{network_of};
 ghost use Rattle.sheet.specs.Reading.{reading, network_layout};
 ghost use Rattle.sheet.specs.Answer.{header_of};
 ghost use Rattle.step.specs.Lists.{keep, place_of};
-ghost use Rattle.step.specs.Calls.{most_calls, most_armed};
+ghost use Rattle.step.specs.Calls.{most_armed};
 ghost use Rattle.network.specs.Sound.{never_falls};
-ghost use Rattle.network.specs.Padded.{most_checkers, is_zero_checker, sound_state};
+ghost use Rattle.network.specs.Padded.{is_zero_checker, sound_state};
 ghost use Rattle.network.specs.Walk.{tables_of, on_call_at, carried_in};
 
 use crate::{Checker, NetworkState};

@@ -144,24 +144,6 @@ module _ (calls : List Call) (l : List Checker) (opened : ℕ) (row : List ℕ) 
 abbrev pub Appending : ℕ → ℕ → ℕ → ℕ → List ℕ → List Checker → List Checker → ℕ → Type 0
 Appending number entry living count numbers before out i = sets out (living + i) (map (checker number entry) (drop i (take count numbers))) ≡ sets before living (map (checker number entry) (take count numbers))
 
-module _ (number entry living count : ℕ) (numbers : List ℕ) (before : List Checker) where
-  pub appending_start : Appending number entry living count numbers before before 0
-  appending_start = ap (λ (k : ℕ). sets before k (map (checker number entry) (take count numbers))) {x = living + 0} {y = living} (omega arith)
-
-  module _ (out : List Checker) (i : ℕ) (g : Appending number entry living count numbers before out i) where
-    pub appending_next : i < count → i < length numbers → Appending number entry living count numbers before (set out (living + i) (checker number entry (get_or numbers i 0))) (i + 1)
-    appending_next h k =
-        let x = checker number entry (get_or numbers i 0) in
-        let rest = map (checker number entry) (drop (i + 1) (take count numbers)) in
-        let next : drop i (take count numbers) ≡ get_or numbers i 0 ∷ drop (i + 1) (take count numbers)
-        = rw (add-one i) (drop-cons (take count numbers) i 0 (omega (arith, length-take count numbers)) ∙ ap (λ (y : ℕ). y ∷ drop (suc i) (take count numbers)) (get_or-take count numbers i 0 h)) in
-        ap (λ (k : ℕ). sets (set out (living + i) x) k rest) {x = living + (i + 1)} {y = suc (living + i)} (omega arith) ∙ ap (λ (m : List ℕ). sets out (living + i) (map (checker number entry) m)) (sym next) ∙ g
-
-    pub appending_end : count ≤ i → count ≤ length numbers → (out ≡ sets before living (map (checker number entry) (take count numbers))) × (living + count ≡ living + length (take count numbers))
-    appending_end h k =
-        let none : drop i (take count numbers) ≡ [] = none_left numbers count i h in
-        (rw none at g, omega (arith, length-take-le count numbers k))
-
 -- The loop that unpacks: i calls are out of it, with their checkers.
 pub record Unpacking (row : List ℕ) (programs opened : ℕ) (calls : List Call) (held : List Checker) (living i : ℕ) : Type 0 where
   pub out : calls ≡ fit 16 zero_call (map (call_in programs) (entries i row))
