@@ -58,8 +58,8 @@ fn offer_sound(
     let mut variables = state.variables;
     match engine::advance(s, plan, run, &mut row, &mut variables, given, &eight) {
         Ok(next) => {
-            let programs = sound::broad(plan[1]);
-            let monitors = sound::broad(plan[2]);
+            let programs = usize::from(plan[1]);
+            let monitors = usize::from(plan[2]);
             Offered {
                 answer: Ok(()),
                 count: next.count,

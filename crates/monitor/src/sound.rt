@@ -1,13 +1,11 @@
 // Whether a state is sound on an accepted sheet.
 
-ghost use Rattle.std.specs.Prelude.{◌≡◌, ◌&&◌, ◌<◌, eqb, ltb, length, get_or, take, drop};
-ghost use Rattle.condition.specs.Answer.{most_variables};
+ghost use Rattle.std.specs.Prelude.{◌≡◌, ◌&&◌, ◌<◌, eqb, ltb, get_or};
 ghost use Rattle.sheet.specs.Table.{every};
 ghost use Rattle.sheet.specs.Decode.{sheet_of};
 ghost use Rattle.sheet.specs.Reading.{reading, sheet_layout};
 ghost use Rattle.sheet.specs.Answer.{header_of};
 ghost use Rattle.step.specs.Lists.{beside, rising};
-ghost use Rattle.step.specs.Calls.{most_calls, most_values};
 ghost use Rattle.step.specs.Padding.{clear};
 ghost use Rattle.monitor.specs.Sound.{call_sound};
 ghost use Rattle.monitor.specs.Padded.{unpad_armed, is_zero_arms, tidy_arms, sound_state};
@@ -140,16 +138,4 @@ fn triple(s: &[u8], at: u16, i: u8) -> Triple
     ensures { result ≡ triple_at s.now at i }
 {
     sheet::triple_at(s, u32::from(at) + 4 * u32::from(i))
-}
-
-pub(crate) fn wide(x: u8) -> usize
-    ensures { (result ≡ x) × (result < 256) }
-{
-    x as usize
-}
-
-pub(crate) fn broad(x: u16) -> usize
-    ensures { (result ≡ x) × (result < 65536) }
-{
-    x as usize
 }

@@ -1,5 +1,5 @@
 -- States as the engine's words, and back.
-use Rattle.std.specs.Prelude.{Bool, cond, List, [], ◌∷◌, ◌++◌, map, ℕ, zero, suc, ◌/◌, ◌%◌, length, take, drop}
+use Rattle.std.specs.Prelude.{Bool, cond, List, [], ◌∷◌, ◌++◌, map, ℕ, zero, suc, length, take, drop}
 use Rattle.condition.specs.Answer.{most_variables}
 use Rattle.sheet.specs.Table.{fit}
 use Rattle.step.specs.declared.Call.{Call}
@@ -18,10 +18,6 @@ use Rattle.network.specs.Padded.{zero_checker, most_checkers}
 -- what stands beside the calls, checkers and variables
 abbrev pub running_of : NetworkState → Running
 running_of w = record { main = w.main; opened = w.opened; position = w.position; outcome = w.outcome }
-
--- the checker of a word: its template is the last byte, the number of its call the two bytes before it, the position of its entry the four before these
-abbrev pub checker_in : ℕ → Checker
-checker_in w = checker (w / 256 % 65536) (w / 16777216 % 4294967296) (w % 256)
 
 -- the first elements of a list, at most so many, up to one that does not pass a test
 unfoldable pub front : {A : Type 0} → (A → Bool) → ℕ → List A → List A

@@ -2,7 +2,6 @@
 // the event makes of them is unpacked.
 
 ghost use Rattle.std.specs.Prelude.{◌≡◌, true, ◌<◌, length};
-ghost use Rattle.sheet.specs.Bytes.{half};
 ghost use Rattle.sheet.specs.Decode.{network_of};
 ghost use Rattle.sheet.specs.Reading.{reading, network_layout};
 ghost use Rattle.step.specs.Calls.{event_of};
@@ -11,7 +10,6 @@ ghost use Rattle.engine.specs.Prepared.{network_plan};
 ghost use Rattle.network.specs.Answers.{offer_of, count_of};
 ghost use Rattle.network.specs.Padded.{sound_state};
 
-use crate::sound::wide;
 use crate::{NetworkState, Offered, pack, sound};
 use engine::PLAN;
 use refusal::Refusal;
@@ -29,7 +27,6 @@ pub(crate) fn offer_accepted(
     ensures state_value { result.state ≡ (offer_of s.now state (event_of event values.now)).state }
     ensures count_value { result.count ≡ count_of s.now state (event_of event values.now) }
 {
-    let size = length_said(s);
     let t = sound::tables_of(s, plan[5]);
     if sound::sound(s, t, state) {
         offer_sound(s, plan, state, event, values)
@@ -61,8 +58,8 @@ fn offer_sound(
     let mut variables = state.variables;
     match engine::advance(s, plan, run, &mut row, &mut variables, given, &eight) {
         Ok(next) => {
-            let programs = sound::broad(plan[1]);
-            let monitors = sound::broad(plan[2]);
+            let programs = usize::from(plan[1]);
+            let monitors = usize::from(plan[2]);
             Offered {
                 answer: Ok(()),
                 count: next.count,
@@ -75,11 +72,4 @@ fn offer_sound(
             state,
         },
     }
-}
-
-// How long the network is, as its first two bytes say.
-fn length_said(s: &[u8]) -> usize
-    ensures { (result ≡ half s.now 0) × (result < 65536) }
-{
-    wide(sheet::byte_at(s, 0)) * 256 + wide(sheet::byte_at(s, 1))
 }

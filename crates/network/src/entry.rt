@@ -4,29 +4,18 @@ ghost use Rattle.std.specs.Prelude.{◌≡◌};
 ghost use Rattle.network.specs.Answers.{entry_values};
 
 use crate::NetworkState;
-use crate::sound::wide;
-use step::Call;
 
 // The values at entry of the living checker at a place of the row.
 pub(crate) fn entry_values(state: NetworkState, i: usize) -> [u32; NetworkState::VALUES]
     ensures { result ≡ entry_values state i }
 {
-    let calls = state.calls;
-    let checkers = state.checkers;
-    let opened = wide(state.opened);
-    if (i < wide(state.living)) & (i < NetworkState::CHECKERS) {
-        let c = checkers[i];
-        let place = step::call_place(calls, opened, c.number);
-        if (place < opened) & (place < NetworkState::CALLS) {
-            return kept_of(calls[place]);
+    let living = usize::from(state.living);
+    if i < living.min(NetworkState::CHECKERS) {
+        let number = state.checkers[i].number;
+        let opened = usize::from(state.opened);
+        if let Some(call) = state.calls.iter().take(opened).find(|c| c.number == number) {
+            return call.kept;
         }
     }
     [0; NetworkState::VALUES]
-}
-
-// The values that a call keeps.
-fn kept_of(call: Call) -> [u32; NetworkState::VALUES]
-    ensures { result ≡ call.kept }
-{
-    call.kept
 }

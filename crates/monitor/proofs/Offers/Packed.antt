@@ -171,8 +171,8 @@ module _ (calls : List Call) (arms : List Arms) (opened : ℕ) (row : List ℕ) 
   packing_start h = record { here = refl; passed = refl; long = h; low = omega arith }
 
   module _ (i : ℕ) (g : Packing calls arms opened row i) where
-    pub packing_end : opened ≤ i → (n : ℕ) → opened ≡ n → (entries n row ≡ beside (λ c a. words_of c (to_numbers a)) (take n calls) (take n arms)) × (every small (take n calls) ≡ true) × (length row ≡ 256)
-    packing_end h n e = let same : i ≡ n = omega (arith, g.low) in subst (λ (k : ℕ). (entries k row ≡ beside (λ c a. words_of c (to_numbers a)) (take k calls) (take k arms)) × (every small (take k calls) ≡ true) × (length row ≡ 256)) same (g.here, g.passed, g.long)
+    pub packing_end : opened ≤ i → (entries opened row ≡ beside (λ c a. words_of c (to_numbers a)) (take opened calls) (take opened arms)) × (every small (take opened calls) ≡ true) × (length row ≡ 256)
+    packing_end h = let same : i ≡ opened = omega (arith, g.low) in subst (λ (k : ℕ). (entries k row ≡ beside (λ c a. words_of c (to_numbers a)) (take k calls) (take k arms)) × (every small (take k calls) ≡ true) × (length row ≡ 256)) same (g.here, g.passed, g.long)
 
     pub packing_next : i < opened → opened ≤ 16 → length calls ≡ 16 → length arms ≡ 16 → (d : Call) (b : Arms) (numbers : Engine.Arms) → numbers ≡ to_numbers (get_or arms i b) → (after : List ℕ)
         → (after ≡ put_at row i (get_or calls i d) numbers) × ((get_or calls i d).number < 65536) × ((get_or calls i d).unit < 256) × (length (get_or calls i d).kept ≡ 8) × (length numbers.numbers ≡ 4) → Packing calls arms opened after (i + 1)
@@ -211,11 +211,11 @@ module _ (row : List ℕ) (programs opened : ℕ) (calls : List Call) (arms : Li
         low = omega arith;
       }
 
-pub unpacking_end : (run : Running) (row variables : List ℕ) (programs monitors opened : ℕ) (calls : List Call) (arms : List Arms) (i : ℕ) → Unpacking row programs opened calls arms i → opened ≤ i → opened ≡ run.opened
+pub unpacking_end : (run : Running) (row variables : List ℕ) (programs monitors : ℕ) (calls : List Call) (arms : List Arms) (i : ℕ) → Unpacking row programs run.opened calls arms i → run.opened ≤ i
     → (front w : List ℕ) → front ≡ take monitors variables → w ≡ fit 8 0 front
     → record { main = run.main; variables = four w; opened = run.opened; calls = calls; arms = arms; position = run.position; outcome = run.outcome } ≡ unpacked programs monitors (words run row variables)
 unfolding unpacked
-unpacking_end run row variables programs monitors opened calls arms i g h eo front w ef ew =
+unpacking_end run row variables programs monitors calls arms i g h front w ef ew =
     let same : i ≡ run.opened = omega (arith, g.low) in
     rw (ew, four_of_eight front, ef, g.out, g.beside_them, same)
 

@@ -1,24 +1,13 @@
 -- Loops that test the first elements of two rows, or whether numbers rise, and what the tests of a sound state come to. Assumes nothing.
-use mathlib.Core.Path.{◌≡◌, refl, sym, ap, ap₂, ◌∙◌}
-use mathlib.Core.Bool.{Bool, true, false, ◌&&◌}
+use mathlib.Core.Path.{◌≡◌, refl, ap}
+use mathlib.Core.Bool.{Bool, true, ◌&&◌}
 use mathlib.Core.List.{List, [], ◌∷◌}
-use Prim.Native.Nat.{ℕ, zero, suc, ◌+◌, ◌*◌, ◌≤◌, ◌<◌}
+use Prim.Native.Nat.{ℕ}
 use native.Mathlib.Omega.{arith}
-use borrow.Author.Tests.{eq-eqb}
-use lib.Dec.{eqb, leb, ltb}
-use lib.ListN.{length, get_or, take, drop, length-take}
-use lib.Seq.{get_or-take}
-use Rattle.sheet.specs.declared.Triple.{Triple}
+use lib.ListN.{length}
 use Rattle.sheet.specs.Table.{every}
-use Rattle.sheet.specs.Decode.{triple_form}
 use Rattle.std.specs.List.{zip}
 use Rattle.step.specs.Lists.{beside}
-use Rattle.step.specs.Padding.{clear}
-use Rattle.step.proofs.OnLists.Turns.{every_end, every_next, every_fails}
-use Rattle.monitor.specs.declared.Arms.{Arms}
-use Rattle.monitor.specs.Padded.{tidy_arms}
-use Rattle.monitor.specs.Walk.{triple_at}
-use Rattle.monitor.proofs.States.Views.{length_beside}
 
 -- a test of each element with the one beside it
 pub every_zip : {A B C : Type 0} (f : A → B → C) (p : C → Bool) (l : List A) (m : List B) → every (λ (x : A × B). p (f x.0 x.1)) (zip l m) ≡ every p (beside f l m)

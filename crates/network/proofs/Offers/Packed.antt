@@ -13,7 +13,6 @@ use Rattle.sheet.specs.Table.{every, fit}
 use Rattle.sheet.specs.Parts.{Network, Common}
 use Rattle.sheet.specs.declared.Record.{Record}
 use Rattle.sheet.specs.Log.{Event}
-use Rattle.sheet.specs.Bytes.{half}
 use Rattle.sheet.specs.Answer.{header_of}
 use Rattle.sheet.specs.Decode.{paired_form, last_at, network_of}
 use Rattle.sheet.specs.Reading.{reading, network_layout, last_of}
@@ -313,9 +312,9 @@ unfolding sound_state
 sound_opened N w h = let (few, (most, rest)) = simp (and_iff, leb_iff) at h in (few, most)
 
 -- An accepted network is as long as its first two bytes say, and its templates begin where its plan says.
-module _ (s plan : List ℕ) (pre : (reading network_layout s ≡ 0) × (plan ≡ network_plan s)) (size : ℕ) (said : (size ≡ half s 0) × (size < 65536)) where
+module _ (s plan : List ℕ) (pre : (reading network_layout s ≡ 0) × (plan ≡ network_plan s)) (bytes : (i : ℕ) → get_or s i 0 < 256) where
   pub short_said : length s < 65536
-  short_said = omega (arith, length_said (accepted network_layout s pre.0), said.0, said.1)
+  short_said = omega (arith, length_said (accepted network_layout s pre.0), bytes 0, bytes 1)
 
   begins : get_or plan 5 0 ≡ last_at paired_form s
   begins = ap (λ (p : List ℕ). get_or p 5 0) pre.1 ∙ (network_planned (accepted network_layout s pre.0) (omega (arith, short_said))).begins

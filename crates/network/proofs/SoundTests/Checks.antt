@@ -5,7 +5,7 @@ use mathlib.Core.Bool.{Bool, true, false, ◌&&◌}
 use mathlib.Core.List.{List, [], ◌∷◌, map, map-map}
 use Prim.Native.Nat.{ℕ, ◌≤◌, ◌<◌}
 use native.Mathlib.Omega.{arith}
-use borrow.Author.Tests.{eq-eqb, le-leb}
+use borrow.Author.Tests.{eq-eqb, le-leb, lt-leb}
 use lib.Dec.{eqb, leb, ltb}
 use lib.ListN.{length, take, drop, length-take, length-map}
 use lib.Seq.{length-take-le}
@@ -126,28 +126,41 @@ module _ (N : Network) (w : NetworkState) (v : length w.variables ≡ 4) (long :
       apart : (a b c d : Bool) → ((a && (b && c)) && d) ≡ (a && (b && (c && d)))
       apart a b c d = and_assoc a (b && c) d ∙ ap (λ (x : Bool). a && x) (and_assoc b c d)
 
+-- more calls, or more checkers, than there are places for
+pub sound_crowded : (N : Network) (w : NetworkState) → 16 < w.opened → false ≡ sound_state N w
+unfolding sound_state
+sound_crowded N w h = rw (lt-leb w.opened 16 h) refl
+
+pub sound_overrun : (N : Network) (w : NetworkState) → 64 < w.living → false ≡ sound_state N w
+unfolding sound_state
+sound_overrun N w h = rw (lt-leb w.living 64 h) (go (leb w.opened 16))
+  where
+    go : (b : Bool) → false ≡ (b && false)
+    go true = refl
+    go false = refl
+
 -- all tests of a state
 pub sound_is : (s : List ℕ) (t : Tables) → (reading network_layout s ≡ 0) × (t ≡ tables_of s)
-    → (w : NetworkState) (o : ℕ) → (o ≡ w.opened) × (length w.variables ≡ 4) × (length w.calls ≡ 16) × (length w.checkers ≡ 64)
-    → (l : ℕ) → (l ≡ w.living) × (l < 256) → (m : ℕ) → (m ≡ t.header.monitors) × (m < 256) → (p : ℕ) → (p ≡ t.header.programs) × (p < 256)
+    → (w : NetworkState) → w.opened ≤ 16 → w.living ≤ 64 → (length w.variables ≡ 4) × (length w.calls ≡ 16) × (length w.checkers ≡ 64)
+    → (calls no-calls : List Call) → calls ≡ take w.opened w.calls → no-calls ≡ drop w.opened w.calls
+    → (checkers no-checkers : List Checker) → checkers ≡ take w.living w.checkers → no-checkers ≡ drop w.living w.checkers
+    → (m p : ℕ) → m ≡ t.header.monitors → p ≡ t.header.programs
     → (b₁ : Bool) → b₁ ≡ clear m w.variables
-    → (b₂ : Bool) → b₂ ≡ every (λ (c : Call). padded 8 p c.kept) (take o w.calls)
-    → (b₃ : Bool) → b₃ ≡ every (λ (c : Call). padded 8 0 c.kept && is_zero_call c) (drop o w.calls)
-    → (b₄ : Bool) → b₄ ≡ every is_zero_checker (drop l w.checkers)
-    → (b₅ : Bool) → b₅ ≡ distinct (map (λ (c : Call). c.number) (take o w.calls))
-    → (b₆ : Bool) → b₆ ≡ entries_sound w.position (map (λ (c : Call). c.entry) (take o w.calls))
-    → (b₇ : Bool) → b₇ ≡ every (λ (c : Call). ltb c.unit t.header.units) (take o w.calls)
-    → (b₈ : Bool) → b₈ ≡ every (on_call_at s t.templates t.header.last (take o w.calls)) (take l w.checkers)
-    → (b₉ : Bool) → b₉ ≡ every (carried_in (take o w.calls)) (take l w.checkers)
-    → (b₁₀ : Bool) → b₁₀ ≡ every (λ (c : Call). leb (length (keep (λ (h : Checker). eqb h.number c.number) (take l w.checkers))) 4) (take o w.calls)
-    → (b₁₁ : Bool) → b₁₁ ≡ never_falls 0 (map (λ (h : Checker). place_of (λ (c : Call). eqb c.number h.number) (take o w.calls)) (take l w.checkers))
+    → (b₂ : Bool) → b₂ ≡ every (λ (c : Call). padded 8 p c.kept) calls
+    → (b₃ : Bool) → b₃ ≡ every (λ (c : Call). padded 8 0 c.kept && is_zero_call c) no-calls
+    → (b₄ : Bool) → b₄ ≡ every is_zero_checker no-checkers
+    → (b₅ : Bool) → b₅ ≡ distinct (map (λ (c : Call). c.number) calls)
+    → (b₆ : Bool) → b₆ ≡ entries_sound w.position (map (λ (c : Call). c.entry) calls)
+    → (b₇ : Bool) → b₇ ≡ every (λ (c : Call). ltb c.unit t.header.units) calls
+    → (b₈ : Bool) → b₈ ≡ every (on_call_at s t.templates t.header.last calls) checkers
+    → (b₉ : Bool) → b₉ ≡ every (carried_in calls) checkers
+    → (b₁₀ : Bool) → b₁₀ ≡ every (λ (c : Call). leb (length (keep (λ (h : Checker). eqb h.number c.number) checkers)) 4) calls
+    → (b₁₁ : Bool) → b₁₁ ≡ never_falls 0 (map (λ (h : Checker). place_of (λ (c : Call). eqb c.number h.number) calls) checkers)
     → (b₁₂ : Bool) → b₁₂ ≡ verdict_fits t.header.bad t.header.last w.main w.position (verdict_in w.outcome)
-    → ((leb o 16 && leb l 64) && ((b₁ && ((b₂ && b₃) && b₄)) && (ltb w.main t.header.states && ((b₅ && (b₆ && b₇)) && ((b₈ && (b₉ && (b₁₀ && b₁₁))) && b₁₂))))) ≡ sound_state (network_of s) w
+    → ((b₁ && ((b₂ && b₃) && b₄)) && (ltb w.main t.header.states && ((b₅ && (b₆ && b₇)) && ((b₈ && (b₉ && (b₁₀ && b₁₁))) && b₁₂)))) ≡ sound_state (network_of s) w
 unfolding sound_state network_of common_of
-sound_is s t (h, e) w o (f, v, long, many) l (g, ll) m (k, mm) p (q, pp) b₁ e₁ b₂ e₂ b₃ e₃ b₄ e₄ b₅ e₅ b₆ e₆ b₇ e₇ b₈ e₈ b₉ e₉ b₁₀ e₁₀ b₁₁ e₁₁ b₁₂ e₁₂ =
+sound_is s t (h, e) w few fewer (v, long, many) calls no-calls ec en checkers no-checkers eh em m p im ip b₁ e₁ b₂ e₂ b₃ e₃ b₄ e₄ b₅ e₅ b₆ e₆ b₇ e₇ b₈ e₈ b₉ e₉ b₁₀ e₁₀ b₁₁ e₁₁ b₁₂ e₁₂ =
     let a = accepted network_layout s h in
     let N = network_of s in
-    let calls = take w.opened w.calls in
-    let checkers = take w.living w.checkers in
-    rw (e₁, e₂, e₃, e₄, e₅, e₆, e₇, e₈, e₉, e₁₀, e₁₁, e₁₂, f, g, k, q, e, on_same a N.common.programs calls checkers, tidy_parts N w v long many, and_assoc (leb w.opened 16) (leb w.living 64) _)
-    (ap (λ (b : Bool). leb w.opened 16 && (leb w.living 64 && b)) (behind (tidy N w) _ (sound N (view N w)) (sound_parts N w v long many (last_in s) (sym (templates_in s)) (bounds a).monitors (bounds a).programs)))
+    rw (e₁, e₂, e₃, e₄, e₅, e₆, e₇, e₈, e₉, e₁₀, e₁₁, e₁₂, ec, en, eh, em, im, ip, e, on_same a N.common.programs (take w.opened w.calls) (take w.living w.checkers), tidy_parts N w v long many, le-leb w.opened 16 few, le-leb w.living 64 fewer)
+    (behind (tidy N w) _ (sound N (view N w)) (sound_parts N w v long many (last_in s) (sym (templates_in s)) (bounds a).monitors (bounds a).programs))

@@ -1,12 +1,12 @@
 -- Filling an array with the elements of a list, or with those that pass a test. Assumes nothing.
-use mathlib.Core.Path.{◌≡◌, refl, ap, subst, ◌∙◌}
+use mathlib.Core.Path.{◌≡◌, refl, ap, ◌∙◌}
 use mathlib.Core.Bool.{Bool, true, false}
 use mathlib.Core.List.{List, [], ◌∷◌, ◌++◌}
 use Prim.Native.Nat.{ℕ, zero, suc, ◌+◌, ◌≤◌, ◌<◌, min}
 use native.Mathlib.Numerals.{add-one}
 use native.Mathlib.Omega.{arith}
-use lib.ListN.{length, get_or, set, take, drop, replicate, length-set, length-take, length-replicate, drop_of_length-le}
-use lib.Seq.{sets, set_out, drop-cons}
+use lib.ListN.{length, get_or, set, take, drop, replicate, length-set, length-replicate, drop_of_length-le}
+use lib.Seq.{sets, drop-cons}
 use Rattle.sheet.specs.Table.{fit}
 use Rattle.sheet.proofs.Readers.Indexing.{sets_fit}
 use Rattle.step.specs.Lists.{keep}
@@ -25,17 +25,9 @@ module _ {A : Type 0} (n : ℕ) (d : A) (whole : List A) where
     pub filling_store : (x : A) (rest : List A) → Filling n d whole out j (x ∷ rest) → Filling n d whole (set out j x) (j + 1) rest
     filling_store x rest g = record { all = rw (add-one j) g.all; long = length-set out j x ∙ g.long }
 
-    pub filling_past : (x : A) (rest : List A) → Filling n d whole out j (x ∷ rest) → n ≤ j → Filling n d whole out (j + 1) rest
-    filling_past x rest g h = subst (λ (o : List A). Filling n d whole o (j + 1) rest) (set_out out j x (omega (arith, g.long))) (filling_store x rest g)
-
     -- nothing is left
     pub filling_end : (rest : List A) → Filling n d whole out j rest → rest ≡ [] → out ≡ fit n d whole
     filling_end rest g e = rw e at g.all
-
-  -- no place is left
-  pub filling_full : (out : List A) (j : ℕ) (rest : List A) → Filling n d whole out j rest → n ≤ j → out ≡ fit n d whole
-  filling_full out j [] g h = g.all
-  filling_full out j (x ∷ rest) g h = filling_full out (j + 1) rest (filling_past out j x rest g h) (omega arith)
 
   -- the next element of a list that is gone through by its places
   pub filling_next : (out : List A) (j : ℕ) (l : List A) (i : ℕ) (e : A) → Filling n d whole out j (drop i l) → i < length l → Filling n d whole (set out j (get_or l i e)) (j + 1) (drop (i + 1) l)
@@ -69,14 +61,3 @@ module _ {A : Type 0} (p : A → Bool) (l : List A) (i : ℕ) where
     pub keep_not_here : p (get_or l i e) ≡ false → keep p (drop i l) ≡ keep p (drop (suc i) l)
     unfolding keep
     keep_not_here t = rw (drop-cons l i e h, t)
-
--- Those that pass are stored one behind the other: i elements seen, j stored.
-pub record Gathering {A : Type 0} (n : ℕ) (d : A) (p : A → Bool) (l out : List A) (i j : ℕ) : Type 0 where
-  pub fill : Filling n d (keep p l) out j (keep p (drop i l))
-  pub low : j ≤ i
-
--- The same among the first `opened` elements of an array.
-module _ {A : Type 0} (n : ℕ) (d : A) (p : A → Bool) (row : List A) (opened : ℕ) (out : List A) (i j : ℕ) (g : Gathering n d p (take opened row) out i j) where
-  module _ (e : A) (h : i < opened) (k : i < length row) where
-    there : i < length (take opened row)
-    there = omega (arith, length-take opened row)

@@ -1,15 +1,15 @@
 -- Arrays with room behind what is there: what goes in comes out again, and what stands there goes in again. Assumes nothing.
 use mathlib.Core.Path.{◌≡◌, refl, sym, ap, ap₂, subst, ◌∙◌}
-use mathlib.Core.Bool.{Bool, true, false, cond, ◌&&◌}
+use mathlib.Core.Bool.{Bool, true, false, ◌&&◌}
 use mathlib.Core.Option.{Option, none, some}
 use mathlib.Core.List.{List, [], ◌∷◌, ◌++◌, map, append-nil, map-append, map-map}
-use Prim.Native.Nat.{ℕ, zero, suc, ◌+◌, ◌-◌, ◌≤◌, ◌<◌}
+use Prim.Native.Nat.{ℕ, zero, suc, ◌≤◌}
 use native.Mathlib.Numerals.{add-one}
 use native.Mathlib.Omega.{arith}
-use borrow.Author.Tests.{ltb-true, ltb-false, eq-eqb}
-use lib.Dec.{eqb, ltb}
-use lib.ListN.{length, get_or, set, take, drop, drop_of_length-le, length-append, length-map, replicate}
-use lib.Seq.{sets, append_snoc, take-suc, take_all, length-take-le, drop-cons, drop-nil}
+use borrow.Author.Tests.{eq-eqb}
+use lib.Dec.{eqb}
+use lib.ListN.{length, get_or, set, take, drop, length-append, length-map, replicate}
+use lib.Seq.{sets, append_snoc}
 use Rattle.sheet.specs.Table.{every, fit}
 use Rattle.sheet.proofs.Tables.{and_parts, and_both, and_assoc}
 use Rattle.sheet.proofs.Tests.{and_iff, eqb_iff}
@@ -55,13 +55,6 @@ length_fit zero d l = refl
 length_fit (suc n) d [] = ap suc (length_fit n d [])
 length_fit (suc n) d (x ∷ l) = ap suc (length_fit n d l)
 
-pub fit_all : {A : Type 0} (d : A) (n : ℕ) (l : List A) → length l ≡ n → fit n d l ≡ l
-unfolding fit
-fit_all d zero [] h = refl
-fit_all d zero (x ∷ l) h = absurd (omega arith)
-fit_all d (suc n) [] h = absurd (omega arith)
-fit_all {A} d (suc n) (x ∷ l) h = ap (λ (m : List A). x ∷ m) (fit_all d n l (omega arith))
-
 -- one more element behind those of an array, and more of them; past the end nothing is stored
 module _ {A : Type 0} (d : A) where
   pub set_fit : (n : ℕ) (l : List A) (x : A) → set (fit n d l) (length l) x ≡ fit n d (l ++ x ∷ [])
@@ -81,26 +74,6 @@ pub row_more : {A B : Type 0} (f : B → A) (d : A) (size : ℕ) (row : List A) 
 row_more f d size row l x n y e g k =
     let there : n ≡ length (map f l) = g ∙ sym (length-map l f) in
     rw (← e, there, k) (set_fit d size (map f l) (f x) ∙ ap (fit size d) (sym (map-append f l (x ∷ []))))
-
--- An array of what is made of each element of another, i of them made.
-pub record Made {A B : Type 0} (f : B → A) (d : A) (size : ℕ) (l : List B) (row : List A) (i : ℕ) : Type 0 where
-  pub same : fit size d (map f (take i l)) ≡ row
-  pub low : i ≤ size
-
-module _ {A B : Type 0} (f : B → A) (d : A) (size : ℕ) (l : List B) where
-  pub made_start : Made f d size l (fit size d []) 0
-  made_start = record { same = refl; low = omega arith }
-
-  module _ (row : List A) (i : ℕ) (g : Made f d size l row i) where
-    pub made_next : (e : B) → i < size → length l ≡ size → Made f d size l (set row i (f (get_or l i e))) (i + 1)
-    made_next e h long =
-        let more : take (i + 1) l ≡ take i l ++ get_or l i e ∷ [] = rw (add-one i) (take-suc l i e (omega arith)) in
-        record { same = ap (λ (m : List B). fit size d (map f m)) more ∙ sym (row_more f d size row (take i l) (get_or l i e) i (f (get_or l i e)) g.same (sym (length-take-le i l (omega arith))) refl); low = omega arith }
-
-    pub made_end : length l ≡ size → size ≤ i → row ≡ map f l
-    made_end long h =
-        let all : take i l ≡ l = take_all i l (omega arith) in
-        sym g.same ∙ ap (λ (m : List B). fit size d (map f m)) all ∙ fit_all d size (map f l) (length-map l f ∙ long)
 
 -- What takes each element apart and puts it together leaves a list as it is; what holds of all elements holds of some of them.
 module _ {C : Type 0} (p : C → Bool) where
@@ -163,42 +136,6 @@ pub zero_padded : (P : ℕ) → padded 8 P zero_call.kept ≡ true
 unfolding clear every
 zero_padded P = and_both refl (every_drop (λ x. eqb x 0) P (replicate 8 0) refl)
 
--- the same of one value after another
-abbrev zeros : ℕ → ℕ → List ℕ → Bool
-zeros from i [] = true
-zeros from i (x ∷ l) = cond (ltb i from) true (eqb x 0) && zeros from (suc i) l
-
-zeros_clear : (from i : ℕ) (l : List ℕ) → zeros from i l ≡ every (λ x. eqb x 0) (drop (from - i) l)
-unfolding every
-zeros_clear from i [] = ap (every (λ x. eqb x 0)) (sym (drop-nil (from - i)))
-zeros_clear from i (x ∷ l) = go (ltb i from) refl (zeros_clear from (suc i) l)
-  where
-    go : (b : Bool) → ltb i from ≡ b → zeros from (suc i) l ≡ every (λ x. eqb x 0) (drop (from - suc i) l) → (cond b true (eqb x 0) && zeros from (suc i) l) ≡ every (λ x. eqb x 0) (drop (from - i) (x ∷ l))
-    go true e k =
-        let less : from - i ≡ suc (from - suc i) = omega (arith, ltb-true i from e) in
-        k ∙ ap (λ (n : ℕ). every (λ x. eqb x 0) (drop n (x ∷ l))) (sym less)
-    go false e k =
-        let here : from - i ≡ 0 = omega (arith, ltb-false i from e) in
-        let next : from - suc i ≡ 0 = omega (arith, ltb-false i from e) in
-        ap (λ (b : Bool). eqb x 0 && b) (k ∙ ap (λ (n : ℕ). every (λ x. eqb x 0) (drop n l)) next) ∙ ap (λ (n : ℕ). every (λ x. eqb x 0) (drop n (x ∷ l))) (sym here)
-
-pub eight_clear : (from : ℕ) (k : List ℕ) → length k ≡ 8 → (b₀ b₁ b₂ b₃ b₄ b₅ b₆ b₇ : Bool) → b₀ ≡ cond (ltb 0 from) true (eqb (get_or k 0 0) 0) → b₁ ≡ cond (ltb 1 from) true (eqb (get_or k 1 0) 0) → b₂ ≡ cond (ltb 2 from) true (eqb (get_or k 2 0) 0)
-    → b₃ ≡ cond (ltb 3 from) true (eqb (get_or k 3 0) 0) → b₄ ≡ cond (ltb 4 from) true (eqb (get_or k 4 0) 0) → b₅ ≡ cond (ltb 5 from) true (eqb (get_or k 5 0) 0) → b₆ ≡ cond (ltb 6 from) true (eqb (get_or k 6 0) 0) → b₇ ≡ cond (ltb 7 from) true (eqb (get_or k 7 0) 0)
-    → (b₀ && (b₁ && (b₂ && (b₃ && (b₄ && (b₅ && (b₆ && b₇))))))) ≡ clear from k
-unfolding clear
-eight_clear from k h b₀ b₁ b₂ b₃ b₄ b₅ b₆ b₇ e₀ e₁ e₂ e₃ e₄ e₅ e₆ e₇ =
-    let t : ℕ → Bool = λ i. cond (ltb i from) true (eqb (get_or k i 0) 0) in
-    let step : (i : ℕ) → i < 8 → zeros from i (drop i k) ≡ (t i && zeros from (suc i) (drop (suc i) k)) = λ i l. ap (zeros from i) (drop-cons k i 0 (omega arith)) in
-    let on : (i : ℕ) → Bool → Bool = λ i b. t i && b in
-    let last : zeros from 8 (drop 8 k) ≡ true = ap (zeros from 8) (drop_of_length-le k {i = 8} (omega arith)) in
-    let whole : zeros from 0 k ≡ on 0 (on 1 (on 2 (on 3 (on 4 (on 5 (on 6 (on 7 true))))))) = step 0 (omega arith) ∙ ap (on 0) (step 1 (omega arith) ∙ ap (on 1) (step 2 (omega arith) ∙ ap (on 2) (step 3 (omega arith) ∙ ap (on 3) (step 4 (omega arith) ∙ ap (on 4) (step 5 (omega arith) ∙ ap (on 5) (step 6 (omega arith) ∙ ap (on 6) (step 7 (omega arith) ∙ ap (on 7) last))))))) in
-    (λ i. e₀ i && (e₁ i && (e₂ i && (e₃ i && (e₄ i && (e₅ i && (e₆ i && (e₇ ∙ all (t 7)) i)))))))
-    ∙ sym whole ∙ zeros_clear from 0 k ∙ ap (λ (n : ℕ). every (λ x. eqb x 0) (drop n k)) {x = from - 0} {y = from} (omega arith)
-  where
-    all : (b : Bool) → b ≡ (b && true)
-    all true = refl
-    all false = refl
-
 -- the first four of eight words
 abbrev pub four : List ℕ → List ℕ
 four w = get_or w 0 0 ∷ get_or w 1 0 ∷ get_or w 2 0 ∷ get_or w 3 0 ∷ []
@@ -254,12 +191,6 @@ exchanged true false true d = refl
 exchanged true false false d = refl
 exchanged false b c d = refl
 
--- two tests on every element
-pub every_and : {A : Type 0} (p q : A → Bool) (l : List A) → every (λ x. p x && q x) l ≡ (every p l && every q l)
-unfolding every
-every_and p q [] = refl
-every_and p q (x ∷ l) = ap (λ (b : Bool). (p x && q x) && b) (every_and p q l) ∙ exchanged (p x) (q x) (every p l) (every q l)
-
 never : (b : Bool) → (b && false) ≡ false
 never true = refl
 never false = refl
@@ -278,13 +209,6 @@ no_call P c = go (eqb (length c.kept) 8) (eqb c.number 0) (eqb c.unit 0) (eqb c.
     go l n u a true e = rw (every_drop (λ x. eqb x 0) P c.kept e)
     go false n u a false e = refl
     go true n u a false e = rw (nowhere n u a) (sym (never (every (λ x. eqb x 0) (drop P c.kept))))
-
-pub no_call_is : (c : Call) (r b : Bool) → (r ≡ is_zero_call c) × (length c.kept ≡ 8) → r ≡ b → (padded 8 0 c.kept && is_zero_call c) ≡ b
-no_call_is c r b f e = rw f.1 (go (eqb c.number 0) (eqb c.unit 0) (eqb c.entry 0) (clear 0 c.kept) ∙ sym f.0 ∙ e)
-  where
-    go : (n u a z : Bool) → ((eqb 8 8 && z) && (n && (u && (a && z)))) ≡ (n && (u && (a && z)))
-    go n u a true = refl
-    go n u a false = sym (nowhere n u a)
 
 pub tidy_calls : (P n : ℕ) (l : List Call) → (every (λ (c : Call). padded 8 P c.kept) (take n l) && every (λ (c : Call). padded 8 0 c.kept && is_zero_call c) (drop n l)) ≡ (every (λ (c : Call). padded 8 P c.kept) l && every is_zero_call (drop n l))
 unfolding every

@@ -5,10 +5,10 @@ use mathlib.Core.List.{List, [], ◌∷◌}
 use Prim.Native.Nat.{ℕ, suc, ◌+◌, ◌≤◌, ◌<◌}
 use native.Mathlib.Numerals.{add-one}
 use native.Mathlib.Omega.{arith}
-use borrow.Author.Tests.{lt-ltb, le-ltb}
+use borrow.Author.Tests.{lt-ltb}
 use lib.Dec.{ltb, leb-suc-suc}
-use lib.ListN.{length, get_or, take, drop, drop_of_length-le, length-take}
-use lib.Seq.{drop-cons, get_or-take}
+use lib.ListN.{length, get_or, drop, drop_of_length-le}
+use lib.Seq.{drop-cons}
 use Rattle.step.specs.Lists.{any, place_of}
 
 -- looking for the first element of a list that passes a test, i of them passed
@@ -52,30 +52,3 @@ any_place p (x ∷ l) = go (p x) (any_place p l)
     go : (b : Bool) → any p l ≡ ltb (place_of p l) (length l) → cond b true (any p l) ≡ ltb (cond b 0 (suc (place_of p l))) (suc (length l))
     go true h = sym (lt-ltb 0 (suc (length l)) (omega arith))
     go false h = h ∙ sym (leb-suc-suc (suc (place_of p l)) (length l))
-
--- the same among the first `opened` of an array
-module _ {A : Type 0} (p : A → Bool) (calls : List A) (opened i : ℕ) (g : Passed p (take opened calls) i) where
-  pub call_far : length calls ≤ i → i ≡ place_of p (take opened calls)
-  call_far h = passed_end p (take opened calls) i g (omega (arith, length-take opened calls))
-
-  pub call_end : opened ≤ i → i ≡ place_of p (take opened calls)
-  call_end h = passed_end p (take opened calls) i g (omega (arith, length-take opened calls))
-
-  module _ (d : A) (h : i < opened) (k : i < length calls) where
-    there : i < length (take opened calls)
-    there = omega (arith, length-take opened calls)
-
-    pub call_found : p (get_or calls i d) ≡ true → i ≡ place_of p (take opened calls)
-    call_found e = passed_found p (take opened calls) i d g there (rw (get_or-take opened calls i d h) e)
-
-    pub call_more : p (get_or calls i d) ≡ false → Passed p (take opened calls) (i + 1)
-    call_more e = passed_more p (take opened calls) i d g there (rw (get_or-take opened calls i d h) e)
-
-    pub call_any : p (get_or calls i d) ≡ true → true ≡ any p (take opened calls)
-    call_any e = sym (any_place p (take opened calls) ∙ lt-ltb (place_of p (take opened calls)) (length (take opened calls)) (rw (call_found e) at there))
-
-  pub call_none : length calls ≤ i → false ≡ any p (take opened calls)
-  call_none h = sym (any_place p (take opened calls) ∙ le-ltb (place_of p (take opened calls)) (length (take opened calls)) (omega (arith, call_far h, length-take opened calls)))
-
-  pub call_nothing : opened ≤ i → false ≡ any p (take opened calls)
-  call_nothing h = sym (any_place p (take opened calls) ∙ le-ltb (place_of p (take opened calls)) (length (take opened calls)) (omega (arith, call_end h, length-take opened calls)))

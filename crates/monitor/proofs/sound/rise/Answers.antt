@@ -1,5 +1,5 @@
 -- `sound::rise` meets its contract. Assumes nothing.
-use Rattle.std.proofs.Common.{◌≡◌, ℕ, Bool, ltb, rules, tests}
+use Rattle.std.proofs.Common.{◌≡◌, ℕ, ltb, rules, tests}
 use Rattle.std.proofs.lemmas.List.Sorted.{answers_always}
 use Rattle.std.specs.List.{IsAllAdjacentAnswer}
 use Rattle.step.proofs.OnLists.Rising.{rising_answer}

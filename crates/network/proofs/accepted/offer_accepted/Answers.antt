@@ -6,10 +6,10 @@ use Rattle.network.proofs.Offers.Packed.{short_said, tables_there}
 use Rattle.network.proofs.accepted.offer_accepted.Goals as goal
 
 pub sound-requires : goal.sound-requires
-sound-requires c = (c.requires.0, tables_there _ _ c.requires _ c.length_said-size.ensures _ c.tables_of-t.ensures)
+sound-requires c = (c.requires.0, tables_there _ _ c.requires (λ i. (c.type_inv.s i).fits) _ c.tables_of-t.ensures)
 
 pub offer_sound-requires : goal.offer_sound-requires
-offer_sound-requires c = (c.requires.0, short_said _ _ c.requires _ c.length_said-size.ensures, c.requires.1, sym c.sound.ensures ∙ c.if-sound.true)
+offer_sound-requires c = (c.requires.0, short_said _ _ c.requires (λ i. (c.type_inv.s i).fits), c.requires.1, sym c.sound.ensures ∙ c.if-sound.true)
 
 pub returns-else-sound : goal.returns-else-sound
 returns-else-sound c =

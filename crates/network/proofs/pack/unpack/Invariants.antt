@@ -1,10 +1,6 @@
 -- `pack::unpack` meets its contract. Assumes nothing.
-use Prim.Native.Nat.{◌-◌}
 use Rattle.network.proofs.Offers.Packing.{Unpacking}
 use Rattle.network.proofs.pack.unpack.Given as goal
 
 abbrev pub invariant-loop-i : goal.invariant-loop-i
-invariant-loop-i l = Unpacking l.row l.programs l.opened l.calls l.words l.living l.i
-
-abbrev pub decreases-loop-i : goal.decreases-loop-i
-decreases-loop-i l = l.opened - l.i
+invariant-loop-i l = Unpacking l.row l.programs l.run.opened l.calls l.checkers l.living l.i

@@ -1,5 +1,4 @@
 -- `rows::eight` meets its contract. Assumes nothing.
-use Rattle.std.proofs.Common.{arith}
 use Rattle.step.proofs.OnLists.Filling.{fit_front}
 use Rattle.step.proofs.rows.eight.Goals as goal
 
