@@ -10,10 +10,11 @@ ghost use Rattle.engine.specs.Prepared.{sheet_plan};
 ghost use Rattle.monitor.specs.Answers.{offer_of, count_of};
 ghost use Rattle.monitor.specs.Padded.{sound_state};
 
-use crate::{Offered, WatchState, pack, sound};
+use crate::{WatchState, pack, sound};
 use engine::PLAN;
 use refusal::Refusal;
 use sheet::Record;
+use step::Offered;
 
 pub(crate) fn offer_accepted(
     s: &[u8],
@@ -21,7 +22,7 @@ pub(crate) fn offer_accepted(
     state: WatchState,
     event: Record,
     values: &[u32],
-) -> Offered
+) -> Offered<WatchState>
     requires { (reading sheet_layout s.now ≡ 0) × (plan.now ≡ sheet_plan s.now) }
     ensures answer_value { answer_paper result.answer ≡ answer_of (offer_of s.now state (event_of event values.now)).answer }
     ensures state_value { result.state ≡ (offer_of s.now state (event_of event values.now)).state }
@@ -45,7 +46,7 @@ fn offer_sound(
     state: WatchState,
     event: Record,
     values: &[u32],
-) -> Offered
+) -> Offered<WatchState>
     requires { (reading sheet_layout s.now ≡ 0) × (plan.now ≡ sheet_plan s.now) × (sound_state (sheet_of s.now) state ≡ true) }
     ensures answer_value { answer_paper result.answer ≡ answer_of (offer_of s.now state (event_of event values.now)).answer }
     ensures state_value { result.state ≡ (offer_of s.now state (event_of event values.now)).state }

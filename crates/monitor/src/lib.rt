@@ -13,7 +13,7 @@ ghost use Rattle.step.specs.Answers.{answer_paper, answer_of, run_paper};
 
 use refusal::Refusal;
 use sheet::Record;
-use step::{Call, Counted, Verdict};
+use step::{Call, Counted, Fresh, Offered, Verdict};
 
 mod accepted;
 mod pack;
@@ -36,21 +36,6 @@ pub struct WatchState {
     pub arms: [Arms; WatchState::CALLS],
     pub position: u32,
     pub outcome: Option<Verdict>,
-}
-
-// What making a fresh state answers: what reading the sheet answers, and the state.
-#[derive(Clone, Copy)]
-pub struct Fresh {
-    pub reading: Result<(), Refusal>,
-    pub state: WatchState,
-}
-
-// What offering an event answers, how much was evaluated, and the state that comes back.
-#[derive(Clone, Copy)]
-pub struct Offered {
-    pub answer: Result<(), Refusal>,
-    pub count: u32,
-    pub state: WatchState,
 }
 
 impl WatchState {
@@ -86,7 +71,7 @@ impl WatchState {
     }
 
     // The state before the first event of a log: the start state, the initial values, no calls.
-    pub fn fresh(s: &[u8]) -> Fresh
+    pub fn fresh(s: &[u8]) -> Fresh<WatchState>
         ensures reading_value { reading_paper result.reading ≡ answer (reading sheet_layout s.now) }
         ensures state_value { result.state ≡ fresh_of s.now }
     {
@@ -117,7 +102,7 @@ impl WatchState {
 
 // Offers one event to a state on a sheet: the reading refusals, 9 to 15, or taken. A refused event
 // leaves the state as it was.
-pub fn offer(s: &[u8], state: WatchState, event: Record, values: &[u32]) -> Offered
+pub fn offer(s: &[u8], state: WatchState, event: Record, values: &[u32]) -> Offered<WatchState>
     ensures answer_value { answer_paper result.answer ≡ answer_of (offer_of s.now state (event_of event values.now)).answer }
     ensures state_value { result.state ≡ (offer_of s.now state (event_of event values.now)).state }
     ensures count_value { result.count ≡ count_of s.now state (event_of event values.now) }

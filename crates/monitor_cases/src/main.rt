@@ -8,12 +8,11 @@ use frames::Reader;
 use monitor::{Arms, WatchState};
 use scripts::lines::NamedAt;
 use scripts::set::{Field, Setting};
-use scripts::{Engine, Offered, Shared};
-use refusal::Refusal;
+use scripts::{Engine, Shared};
 use sheet::Record;
 use std::io;
 use std::io::{BufWriter, Read, Write};
-use step::Counted;
+use step::{Counted, Fresh, Offered};
 
 // The engine on a sheet. It has no frames of its own.
 struct Monitor;
@@ -38,18 +37,12 @@ impl Engine for Monitor {
         WatchState::zero()
     }
 
-    fn fresh(text: &[u8]) -> (Result<(), Refusal>, WatchState) {
-        let made = WatchState::fresh(text);
-        (made.reading, made.state)
+    fn fresh(text: &[u8]) -> Fresh<WatchState> {
+        WatchState::fresh(text)
     }
 
     fn offer(text: &[u8], state: WatchState, event: Record, values: &[u32]) -> Offered<WatchState> {
-        let offered = monitor::offer(text, state, event, values);
-        Offered {
-            answer: offered.answer,
-            count: offered.count,
-            state: offered.state,
-        }
+        monitor::offer(text, state, event, values)
     }
 
     fn run(text: &[u8], log: &[u8]) -> Counted {

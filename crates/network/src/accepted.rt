@@ -10,10 +10,11 @@ ghost use Rattle.engine.specs.Prepared.{network_plan};
 ghost use Rattle.network.specs.Answers.{offer_of, count_of};
 ghost use Rattle.network.specs.Padded.{sound_state};
 
-use crate::{NetworkState, Offered, pack, sound};
+use crate::{NetworkState, pack, sound};
 use engine::PLAN;
 use refusal::Refusal;
 use sheet::Record;
+use step::Offered;
 
 pub(crate) fn offer_accepted(
     s: &[u8],
@@ -21,7 +22,7 @@ pub(crate) fn offer_accepted(
     state: NetworkState,
     event: Record,
     values: &[u32],
-) -> Offered
+) -> Offered<NetworkState>
     requires { (reading network_layout s.now ≡ 0) × (plan.now ≡ network_plan s.now) }
     ensures answer_value { answer_paper result.answer ≡ answer_of (offer_of s.now state (event_of event values.now)).answer }
     ensures state_value { result.state ≡ (offer_of s.now state (event_of event values.now)).state }
@@ -45,7 +46,7 @@ fn offer_sound(
     state: NetworkState,
     event: Record,
     values: &[u32],
-) -> Offered
+) -> Offered<NetworkState>
     requires { (reading network_layout s.now ≡ 0) × (length s.now < 65536) × (plan.now ≡ network_plan s.now) × (sound_state (network_of s.now) state ≡ true) }
     ensures answer_value { answer_paper result.answer ≡ answer_of (offer_of s.now state (event_of event values.now)).answer }
     ensures state_value { result.state ≡ (offer_of s.now state (event_of event values.now)).state }

@@ -13,7 +13,7 @@ ghost use Rattle.network.specs.Padded.{zero_state, pad, fresh_of};
 
 use refusal::Refusal;
 use sheet::Record;
-use step::{Call, Counted, Verdict};
+use step::{Call, Counted, Fresh, Offered, Verdict};
 
 mod accepted;
 mod entry;
@@ -40,21 +40,6 @@ pub struct NetworkState {
     pub checkers: [Checker; NetworkState::CHECKERS],
     pub position: u32,
     pub outcome: Option<Verdict>,
-}
-
-// What making a fresh state answers: what reading the network answers, and the state.
-#[derive(Clone, Copy)]
-pub struct Fresh {
-    pub reading: Result<(), Refusal>,
-    pub state: NetworkState,
-}
-
-// What offering an event answers, how much was evaluated, and the state that comes back.
-#[derive(Clone, Copy)]
-pub struct Offered {
-    pub answer: Result<(), Refusal>,
-    pub count: u32,
-    pub state: NetworkState,
 }
 
 impl NetworkState {
@@ -92,7 +77,7 @@ impl NetworkState {
     }
 
     // The state before the first event: the start state, the initial values, no calls, no checkers.
-    pub fn fresh(s: &[u8]) -> Fresh
+    pub fn fresh(s: &[u8]) -> Fresh<NetworkState>
         ensures reading_value { reading_paper result.reading ≡ answer (reading network_layout s.now) }
         ensures state_value { result.state ≡ fresh_of s.now }
     {
@@ -123,7 +108,7 @@ impl NetworkState {
 
 // Offers one event to a state on a network: the reading refusals, 9 to 15, or taken. A refused event
 // leaves the state as it was.
-pub fn offer(s: &[u8], state: NetworkState, event: Record, values: &[u32]) -> Offered
+pub fn offer(s: &[u8], state: NetworkState, event: Record, values: &[u32]) -> Offered<NetworkState>
     ensures answer_value { answer_paper result.answer ≡ answer_of (offer_of s.now state (event_of event values.now)).answer }
     ensures state_value { result.state ≡ (offer_of s.now state (event_of event values.now)).state }
     ensures count_value { result.count ≡ count_of s.now state (event_of event values.now) }

@@ -8,12 +8,11 @@ use frames::Reader;
 use network::{Checker, NetworkState};
 use scripts::lines::{Kept, Named, NamedAt};
 use scripts::set::{Field, Setting};
-use scripts::{Engine, Offered, Shared};
-use refusal::Refusal;
+use scripts::{Engine, Shared};
 use sheet::Record;
 use std::io;
 use std::io::{BufWriter, Read, Write};
-use step::Counted;
+use step::{Counted, Fresh, Offered};
 
 // The engine on a network.
 struct Network;
@@ -42,9 +41,8 @@ impl Engine for Network {
         NetworkState::zero()
     }
 
-    fn fresh(text: &[u8]) -> (Result<(), Refusal>, NetworkState) {
-        let made = NetworkState::fresh(text);
-        (made.reading, made.state)
+    fn fresh(text: &[u8]) -> Fresh<NetworkState> {
+        NetworkState::fresh(text)
     }
 
     fn offer(
@@ -53,12 +51,7 @@ impl Engine for Network {
         event: Record,
         values: &[u32],
     ) -> Offered<NetworkState> {
-        let offered = network::offer(text, state, event, values);
-        Offered {
-            answer: offered.answer,
-            count: offered.count,
-            state: offered.state,
-        }
+        network::offer(text, state, event, values)
     }
 
     fn run(text: &[u8], log: &[u8]) -> Counted {

@@ -19,7 +19,7 @@ use Rattle.step.specs.Answers.{answer_paper, answer_of}
 use Rattle.step.proofs.OnEvents.Following.{log_length, log_filled}
 use Rattle.step.proofs.OnLists.Rooms.{take_fitted}
 use Rattle.network.specs.declared.NetworkState.{NetworkState}
-use Rattle.network.specs.declared.Offered.{Offered}
+use Rattle.step.specs.declared.Offered.{Offered}
 use Rattle.network.specs.Padded.{fresh_of}
 use Rattle.network.specs.Answers.{offer_of}
 use Rattle.agreement.specs.Shown.{follow, offered_to}
@@ -40,7 +40,7 @@ module _ (P : ℕ) (log : List ℕ) (at : ℕ) (few : P ≤ 8) (r : Record) (er 
       let values : take P words ≡ records word_form P (drop 4 (drop at log)) = values_there ∙ ap (records word_form P) (sym (drop-drop 4 at log)) in
       λ i. event_of (er i) (values i)
 
-  pub offered_there : (n : List ℕ) (w : NetworkState) (o : Offered) → answer_paper o.answer ≡ answer_of (offer_of n w (event_of r (take P words))).answer → o.state ≡ (offer_of n w (event_of r (take P words))).state
+  pub offered_there : (n : List ℕ) (w : NetworkState) (o : Offered NetworkState) → answer_paper o.answer ≡ answer_of (offer_of n w (event_of r (take P words))).answer → o.state ≡ (offer_of n w (event_of r (take P words))).state
       → (answer_paper o.answer ≡ answer_of (offer_of n w ((event_form P).value (drop at log))).answer) × (o.state ≡ (offer_of n w ((event_form P).value (drop at log))).state)
   offered_there n w o ea es = (ea ∙ ap (λ (e : Event). answer_of (offer_of n w e).answer) event_there, es ∙ ap (λ (e : Event). (offer_of n w e).state) event_there)
 
@@ -113,7 +113,7 @@ module _ (n : List ℕ) (P : ℕ) (log o : List ℕ) (size end : ℕ) where
       whole = ap (λ (k : ℕ). table (event_form P) k log at) next.more ∙ table_step (event_form P) next.left log at
 
       -- the record at this place is offered
-      module _ (r : Offered) (ea : answer_paper r.answer ≡ answer_of (offer_of n w ((event_form P).value (drop at log))).answer) (es : r.state ≡ (offer_of n w ((event_form P).value (drop at log))).state) where
+      module _ (r : Offered NetworkState) (ea : answer_paper r.answer ≡ answer_of (offer_of n w ((event_form P).value (drop at log))).answer) (es : r.state ≡ (offer_of n w ((event_form P).value (drop at log))).state) where
         pub offering_next : (b : ℕ) → b ≡ number_of (answer_paper r.answer) → (p : List ℕ) → p ≡ set out i b → Offering n P log o size end p r.state (i + 1) (at + size)
         unfolding follow
         offering_next b f p d =

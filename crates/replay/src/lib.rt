@@ -12,8 +12,9 @@ ghost use Rattle.agreement.specs.Shown.{offered_to};
 ghost use Rattle.replay.specs.Replay.{replay_paper, refused, number_of, replay_of, replayed_state, replayed_answers};
 ghost use Rattle.replay.specs.Walk.{Replays};
 
-use network::{NetworkState, Offered};
+use network::NetworkState;
 use refusal::Refusal;
+use step::Offered;
 
 // What replaying answers, how many records were offered, and the state after the last.
 #[derive(Clone, Copy)]
@@ -96,7 +97,7 @@ fn record_size(programs: u8) -> u32
 }
 
 // Offers the record at a place of a log, with its values.
-fn offer_at(network: &[u8], state: NetworkState, log: &[u8], at: u32, programs: u8) -> Offered
+fn offer_at(network: &[u8], state: NetworkState, log: &[u8], at: u32, programs: u8) -> Offered<NetworkState>
     requires { (programs ≤ 8) × (at + 4 < 4294967296) }
     ensures answer_value { answer_paper result.answer ≡ answer_of (offer_of network.now state ((event_form programs).value (drop at log.now))).answer }
     ensures state_value { result.state ≡ (offer_of network.now state ((event_form programs).value (drop at log.now))).state }

@@ -45,13 +45,13 @@ impl<E: Engine> Bench<E> {
 
     // Makes the fresh state the state.
     fn start<W: Write>(&mut self, out: &mut W, text: &[u8]) -> io::Result<()> {
-        let (reading, state) = E::fresh(text);
-        match reading {
+        let made = E::fresh(text);
+        match made.reading {
             Ok(()) => write!(out, "accepted")?,
             Err(refusal) => write!(out, "{refusal}")?,
         }
-        self.state = state;
-        print_state::<E, W>(out, &state)
+        self.state = made.state;
+        print_state::<E, W>(out, &made.state)
     }
 
     fn set(&mut self, setting: Setting) {

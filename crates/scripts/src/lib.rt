@@ -4,11 +4,10 @@
 
 ghost use Rattle.std.specs.Prelude.{◌≤◌, length, IfSome};
 
-use refusal::Refusal;
 use sheet::Record;
 use std::io;
 use std::io::Write;
-use step::{Call, Counted, Verdict};
+use step::{Call, Counted, Fresh, Offered, Verdict};
 
 mod bench;
 mod frame;
@@ -31,14 +30,6 @@ pub struct Shared {
     pub outcome: Option<Verdict>,
 }
 
-// What offering an event answers, how much was evaluated, and the state that comes back.
-#[derive(Drop)]
-pub struct Offered<S> {
-    pub answer: Result<(), Refusal>,
-    pub count: u32,
-    pub state: S,
-}
-
 // An engine, as a script uses it, and what its frames, fields and lines have of their own.
 pub trait Engine: Sized {
     type State: Copy;
@@ -48,7 +39,7 @@ pub trait Engine: Sized {
     fn zero() -> Self::State;
 
     // What reading the text answers, and its fresh state.
-    fn fresh(text: &[u8]) -> (Result<(), Refusal>, Self::State);
+    fn fresh(text: &[u8]) -> Fresh<Self::State>;
 
     fn offer(
         text: &[u8],

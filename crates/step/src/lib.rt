@@ -51,6 +51,21 @@ pub struct Counted {
     pub count: u64,
 }
 
+// What making a fresh state answers: what reading answers, and the state, all-zero where that is refused.
+#[derive(Clone, Copy)]
+pub struct Fresh<S> {
+    pub reading: Result<(), Refusal>,
+    pub state: S,
+}
+
+// What offering an event answers, how much was evaluated, and the state that comes back.
+#[derive(Clone, Copy)]
+pub struct Offered<S> {
+    pub answer: Result<(), Refusal>,
+    pub count: u32,
+    pub state: S,
+}
+
 // An open call: its number, its unit, the position of its entry, and the values kept there.
 #[derive(Clone, Copy)]
 pub struct Call {

@@ -1,5 +1,4 @@
 -- `event::lowest_failing` meets its contract. Assumes nothing.
-use Prim.Native.Nat.{◌-◌}
 use Rattle.engine.proofs.InWords.Failing.{Judging}
 use Rattle.engine.proofs.event.lowest_failing.Given as goal
 

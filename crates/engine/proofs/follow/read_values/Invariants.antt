@@ -1,5 +1,4 @@
 -- `follow::read_values` meets its contract. Assumes nothing.
-use Prim.Native.Nat.{◌-◌}
 use Rattle.engine.proofs.OverLogs.Followed.{Filling}
 use Rattle.engine.proofs.follow.read_values.Given as goal
 

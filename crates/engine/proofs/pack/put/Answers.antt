@@ -1,6 +1,5 @@
 -- `pack::put` meets its contract. Assumes nothing.
 use mathlib.Core.Path.{◌≡◌}
-use native.Mathlib.Omega.{arith}
 use borrow.Author.Rules.{rules}
 use lib.ListN.{length}
 use Rattle.engine.proofs.Packed.{put_nothing, put_there}

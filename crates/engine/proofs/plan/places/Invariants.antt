@@ -1,5 +1,4 @@
 -- `plan::places` meets its contract. Assumes nothing.
-use Prim.Native.Nat.{◌-◌}
 use Rattle.engine.proofs.Plans.Linking.{Placing}
 use Rattle.engine.proofs.plan.places.Given as goal
 

@@ -1,5 +1,4 @@
 -- `plan::posts` meets its contract. Assumes nothing.
-use Prim.Native.Nat.{◌-◌}
 use Rattle.engine.proofs.Plans.Linking.{Posting}
 use Rattle.engine.proofs.plan.posts.Given as goal
 
