@@ -7,7 +7,7 @@ use native.Mathlib.Numerals.{add-one}
 use native.Mathlib.Omega.{arith}
 use borrow.Author.Tests.{lt-ltb}
 use lib.ListN.{length, get_or, set, take, drop, replicate, length-map, length-take, length-append, drop_of_length-le, get_or-map}
-use lib.Seq.{sets, take-suc, drop-cons, get_or-take, length-take-le}
+use lib.Seq.{sets, take-suc, drop-cons, get_or-take}
 use Rattle.sheet.specs.Table.{every, fit}
 use Rattle.sheet.proofs.Tables.{and_both, every_append}
 use Rattle.step.specs.declared.Call.{Call}
@@ -139,10 +139,6 @@ module _ (calls : List Call) (l : List Checker) (opened : ℕ) (row : List ℕ) 
           long = ap length ea ∙ put_length row i c arms (omega arith) g.long;
           low = omega arith;
         }
-
--- The loop that puts the checkers of a call behind those of a row: i of them are there.
-abbrev pub Appending : ℕ → ℕ → ℕ → ℕ → List ℕ → List Checker → List Checker → ℕ → Type 0
-Appending number entry living count numbers before out i = sets out (living + i) (map (checker number entry) (drop i (take count numbers))) ≡ sets before living (map (checker number entry) (take count numbers))
 
 -- The loop that unpacks: i calls are out of it, with their checkers.
 pub record Unpacking (row : List ℕ) (programs opened : ℕ) (calls : List Call) (held : List Checker) (living i : ℕ) : Type 0 where

@@ -8,9 +8,6 @@ use Rattle.monitor.proofs.accepted.offer_accepted.Goals as goal
 pub sound-requires : goal.sound-requires
 sound-requires c = (c.requires.0, tables_there _ _ c.requires _ c.tables_of-t.ensures)
 
-pub offer_sound-requires : goal.offer_sound-requires
-offer_sound-requires c = (c.requires.0, c.requires.1, sym c.sound.ensures ∙ c.if-sound.true)
-
 pub returns-else-sound : goal.returns-else-sound
 returns-else-sound c =
     let a = c.args in
