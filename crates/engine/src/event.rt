@@ -21,7 +21,8 @@ pub(crate) struct Leaving {
     pub place: usize,
 }
 
-// The transition that is found, or 96, and how much was evaluated until it was.
+// The transition that is found, or 96, and how much was evaluated until it was. 96 and not an Option: it is
+// also the place of none in the plan, so that a network reads its candidates there without a test.
 #[derive(Clone, Copy)]
 struct Found {
     transition: usize,
@@ -35,7 +36,8 @@ struct Led {
     count: u32,
 }
 
-// The lowest number that fails, or 256, and how much was evaluated to judge all of them.
+// The lowest number that fails, or 256, and how much was evaluated to judge all of them. 256 and not an
+// Option: a number of the row may be any word, and the lowest so far is then the lesser of two.
 #[derive(Clone, Copy)]
 struct Lowest {
     number: u16,

@@ -25,7 +25,8 @@ mod plan;
 mod row;
 
 // The words of a plan, and the number of no transition and of no candidate: what a plan has everywhere
-// before it is made.
+// before it is made. Words by their places, as those of a row of calls, and no structs: fixed memory, and
+// an event of the structs that were there before took three times the instructions (docs/DECISIONS.md, 143).
 pub const PLAN: usize = 2344;
 
 pub const ABSENT: u16 = 1000;

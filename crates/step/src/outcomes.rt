@@ -8,7 +8,8 @@ ghost use Rattle.sheet.specs.Reading.{is_bad};
 use crate::{Cause, Verdict};
 
 // The outcome of an event: at a position, for the bad states, the new main state, the lowest failing
-// triple (256 or more for none), and the position of the entry of its call.
+// triple (256 or more for none, as the engine finds it by taking the lesser of two), and the position of
+// the entry of its call.
 pub fn outcome(bad: u16, position: u32, main: u8, lowest: u16, entry: u32) -> Option<Verdict>
     ensures { result ≡ outcome_of (verdict bad position main (number_in lowest) entry) }
 {
