@@ -171,9 +171,6 @@ module _ (calls : List Call) (arms : List Arms) (opened : ℕ) (row : List ℕ) 
   packing_start h = record { here = refl; passed = refl; long = h; low = omega arith }
 
   module _ (i : ℕ) (g : Packing calls arms opened row i) where
-    pub packing_end : opened ≤ i → (entries opened row ≡ beside (λ c a. words_of c (to_numbers a)) (take opened calls) (take opened arms)) × (every small (take opened calls) ≡ true) × (length row ≡ 256)
-    packing_end h = let same : i ≡ opened = omega (arith, g.low) in subst (λ (k : ℕ). (entries k row ≡ beside (λ c a. words_of c (to_numbers a)) (take k calls) (take k arms)) × (every small (take k calls) ≡ true) × (length row ≡ 256)) same (g.here, g.passed, g.long)
-
     pub packing_next : i < opened → opened ≤ 16 → length calls ≡ 16 → length arms ≡ 16 → (d : Call) (b : Arms) (numbers : Engine.Arms) → numbers ≡ to_numbers (get_or arms i b) → (after : List ℕ)
         → (after ≡ put_at row i (get_or calls i d) numbers) × ((get_or calls i d).number < 65536) × ((get_or calls i d).unit < 256) × (length (get_or calls i d).kept ≡ 8) × (length numbers.numbers ≡ 4) → Packing calls arms opened after (i + 1)
     unfolding every

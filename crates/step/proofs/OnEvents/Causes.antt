@@ -1,20 +1,15 @@
 -- Verdicts by their state and their triple, and outcomes by their case. Assumes nothing.
 use mathlib.Core.Path.{◌≡◌, refl, sym, ◌∙◌}
 use mathlib.Core.Logic.{◌⊎◌, inl, inr}
-use mathlib.Core.Bool.{Bool, true, false, not, cond, ◌&&◌}
+use mathlib.Core.Bool.{Bool, true, false, cond}
 use mathlib.Core.Option.{Option, none, some}
-use Prim.Native.Nat.{ℕ, ◌≤◌, ◌<◌}
-use borrow.Author.Tests.{lt-ltb, le-ltb}
-use lib.Dec.{eqb, leb, ltb}
+use Prim.Native.Nat.{ℕ}
 use Rattle.sheet.specs.Parts.{Common}
 use Rattle.sheet.specs.Reading.{is_bad}
 use Rattle.step.specs.declared.Cause.{Cause}
 use Rattle.step.specs.declared.Cause.TheVariants as cause
 use Rattle.step.specs.declared.Verdict.{Verdict}
-use Rattle.std.specs.Prelude as Prelude
-use Rattle.std.specs.Prelude.{Some, None}
-use Rattle.step.specs.Verdicts.{cause_of, placed, bad_state, carried, verdict, cause_state, cause_triple, if_there, entry_fits, verdict_fits, outcome_of, verdict_in}
-use Rattle.step.specs.Walk.{number_in}
+use Rattle.step.specs.Verdicts.{cause_of, placed, bad_state, carried, verdict, cause_state, cause_triple}
 use Rattle.step.proofs.OnLists.Lists.{none_some}
 
 -- a cause is the one of its state and its triple
@@ -53,41 +48,3 @@ module _ (C : Common) (position main entry : ℕ) where
   pub verdict_some : (t : Option ℕ) (v : Verdict) → verdict C.bad position main t entry ≡ some v
       → (v.position ≡ position) × (cause_state v.cause ≡ bad_state C.bad main) × (cause_triple v.cause ≡ t) × (v.entry ≡ carried t entry) × ((is_bad C.bad main ≡ true) ⊎ ((i : ℕ) × (t ≡ some i)))
   verdict_some t v e = some_step (is_bad C.bad main) t v e
-
--- whether a verdict's cause and entry are sound, by the cause's case
-abbrev cause_fits : ℕ → ℕ → ℕ → Verdict → Bool
-cause_fits bad triples main v = if_there (cause_state v.cause) (λ q. eqb q main && is_bad bad q) && (if_there (cause_triple v.cause) (λ t. ltb t triples) && entry_fits (cause_triple v.cause) v.position v.entry)
-
-module _ (bad triples main : ℕ) (v : Verdict) where
-  pub fits_state : (q : ℕ) → v.cause ≡ cause.BadState q → (b : Bool) → b ≡ is_bad bad q → ((eqb q main && b) && eqb v.entry 0) ≡ cause_fits bad triples main v
-  fits_state q e b f = rw (e, f)
-
-  pub fits_triple : (t : ℕ) → v.cause ≡ cause.Triple t → (ltb t triples && (leb 1 v.entry && ltb v.entry v.position)) ≡ cause_fits bad triples main v
-  fits_triple t e = rw e
-
-  pub fits_both : (q t : ℕ) → v.cause ≡ cause.Both q t → (b : Bool) → b ≡ is_bad bad q → ((eqb q main && b) && (ltb t triples && (leb 1 v.entry && ltb v.entry v.position))) ≡ cause_fits bad triples main v
-  fits_both q t e b f = rw (e, f)
-
--- whether an outcome is, by its case
-module _ (bad triples main position : ℕ) (o : Prelude.Option Verdict) where
-  pub fits_open : o ≡ None → (b : Bool) → b ≡ is_bad bad main → not b ≡ verdict_fits bad triples main position (verdict_in o)
-  fits_open e b f = rw (e, f)
-
-  pub fits_judged : (v : Verdict) → o ≡ Some v → (b : Bool) → b ≡ cause_fits bad triples main v → (eqb v.position position && b) ≡ verdict_fits bad triples main position (verdict_in o)
-  fits_judged v e b f = rw (e, f)
-
--- the outcome, by whether the state is bad and whether a triple fails
-module _ (bad position main lowest entry : ℕ) (b : Bool) (e : b ≡ is_bad bad main) where
-  module _ (h : lowest < 256) where
-    pub outcome_both : b ≡ true → Some (record { position = position; cause = cause.Both main lowest; entry = entry }) ≡ outcome_of (verdict bad position main (number_in lowest) entry)
-    outcome_both t = rw (lt-ltb lowest 256 h, ← e, t)
-
-    pub outcome_triple : b ≡ false → Some (record { position = position; cause = cause.Triple lowest; entry = entry }) ≡ outcome_of (verdict bad position main (number_in lowest) entry)
-    outcome_triple t = rw (lt-ltb lowest 256 h, ← e, t)
-
-  module _ (h : 256 ≤ lowest) where
-    pub outcome_state : b ≡ true → Some (record { position = position; cause = cause.BadState main; entry = 0 }) ≡ outcome_of (verdict bad position main (number_in lowest) entry)
-    outcome_state t = rw (le-ltb lowest 256 h, ← e, t)
-
-    pub outcome_open : b ≡ false → None ≡ outcome_of (verdict bad position main (number_in lowest) entry)
-    outcome_open t = rw (le-ltb lowest 256 h, ← e, t)
