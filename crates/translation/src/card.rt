@@ -12,7 +12,7 @@ ghost use Rattle.translation.specs.Walk.{Room, Writes};
 ghost use Rattle.translation.specs.CardWalk.{Narrow, PreparedNetwork, earlier_in, WritesWide, separated_bytes, joined_short, separate_refusal};
 
 use crate::write;
-use crate::write::{Both, base, copy, far, header, near, put_half, put_two, texts, wide, words};
+use crate::write::{Both, base, copy, header, put_half, put_two, texts, words};
 use refusal::Refusal;
 use sheet::{Header, Transition};
 
@@ -28,7 +28,7 @@ fn size_at(n: &[u8], place: u32) -> u32
     requires { place ≤ 100000 }
     ensures { (result ≡ paired_form.size (drop place n.now)) × (result < 600) }
 {
-    7 + 2 * wide(sheet::byte_at(n, place + 6))
+    7 + 2 * u32::from(sheet::byte_at(n, place + 6))
 }
 
 // A condition by its number.
@@ -36,7 +36,7 @@ fn condition(n: &[u8], index: &[u32; 161], from: u32, i: u8, out: &mut [u8], at:
     requires { Narrow n.now index.now from × (i < conditions_in n.now) × Room at (condition_in (common_of n.now) i) }
     ensures { Writes out.old out.new at (condition_in (common_of n.now) i) result }
 {
-    let text = sheet::condition_at(n, index[near(i)]);
+    let text = sheet::condition_at(n, index[usize::from(i)]);
     copy(text, 0, text.len(), out, at)
 }
 
@@ -53,17 +53,15 @@ fn joined(
     requires { Narrow n.now index.now from × (k ≤ transitions_in n.now) × (t.condition < conditions_in n.now) × Room at (joined_text (common_of n.now) t (earlier_in n.now k)) }
     ensures { Writes out.old out.new at (joined_text (common_of n.now) t (earlier_in n.now k)) result }
 {
-    let mut left = k;
     let mut place = from;
     let mut here = at;
-    while 0 < left {
+    for _ in 0..k {
         let u = sheet::transition_at(n, place);
         if same(t, u) {
             let next = put_two(out, here, 2, 1);
             here = condition(n, index, from, u.condition, out, next);
         }
         place += size_at(n, place);
-        left -= 1;
     }
     condition(n, index, from, t.condition, out, here)
 }
@@ -83,13 +81,11 @@ fn all_short(n: &[u8], index: &[u32; 161], from: u32, count: u8) -> bool
     ensures { result ≡ joined_short n.now }
 {
     let mut ok = true;
-    let mut k: u8 = 0;
     let mut place = from;
-    while k < count {
+    for k in 0..count {
         let t = sheet::transition_at(n, place);
         ok = ok & (joined_size(n, index, from, k, t) <= 1024);
         place += size_at(n, place);
-        k += 1;
     }
     ok
 }
@@ -106,16 +102,14 @@ fn joined_texts(
     requires { Narrow n.now index.now from × (count ≡ transitions_in n.now) × Room at (written (text_bytes true) (joined_conditions (network_of n.now))) }
     ensures { Writes out.old out.new at (written (text_bytes true) (joined_conditions (network_of n.now))) result }
 {
-    let mut k: u8 = 0;
     let mut place = from;
     let mut here = at;
-    while k < count {
+    for k in 0..count {
         let t = sheet::transition_at(n, place);
         let size = joined_size(n, index, from, k, t);
         let next = put_half(out, here, size as u16);
         here = joined(n, index, from, k, t, out, next);
         place += size_at(n, place);
-        k += 1;
     }
     here
 }
@@ -125,15 +119,13 @@ fn wide_texts(n: &[u8], from: u32, count: u8, out: &mut [u8], at: usize) -> Both
     requires { (after (text_form false) count n.now from ≤ length n.now) × (length n.now ≤ 65535) × Room at (written (text_bytes true) (table (text_form false) count n.now from)) }
     ensures { WritesWide n.now out.old out.new from count at result }
 {
-    let mut left = count;
     let mut place = from;
     let mut here = at;
-    while 0 < left {
-        let size = wide(sheet::byte_at(n, place));
+    for _ in 0..count {
+        let size = u32::from(sheet::byte_at(n, place));
         let next = put_half(out, here, size as u16);
-        here = copy(n, far(place) + 1, far(size), out, next);
+        here = copy(n, place as usize + 1, size as usize, out, next);
         place += 1 + size;
-        left -= 1;
     }
     Both {
         from: place,
@@ -155,7 +147,13 @@ fn guarded(n: &[u8], place: u32, number: u8, out: &mut [u8], at: usize) -> usize
             ..t
         },
     );
-    copy(n, far(place) + 6, far(size_at(n, place)) - 6, out, next)
+    copy(
+        n,
+        place as usize + 6,
+        size_at(n, place) as usize - 6,
+        out,
+        next,
+    )
 }
 
 // All of them; the first has this number.
@@ -163,13 +161,11 @@ fn guarded_all(n: &[u8], from: u32, count: u8, number: u8, out: &mut [u8], at: u
     requires { (after paired_form count n.now from ≤ length n.now) × (length n.now ≤ 65535) × (number + count < 256) × Room at (written paired_bytes (guarded_from number (table paired_form count n.now from))) }
     ensures { Writes out.old out.new at (written paired_bytes (guarded_from number (table paired_form count n.now from))) result }
 {
-    let mut k: u8 = 0;
     let mut place = from;
     let mut here = at;
-    while k < count {
+    for k in 0..count {
         here = guarded(n, place, number + k, out, here);
         place += size_at(n, place);
-        k += 1;
     }
     here
 }
@@ -188,11 +184,11 @@ fn tables(
     ensures { Writes out.old out.new at (table_bytes true (separated (network_of n.now))) result }
 {
     let first = words(n, 14, h.monitors, out, at);
-    let old = wide_texts(n, 14 + 4 * wide(h.monitors), h.conditions, out, first);
+    let old = wide_texts(n, 14 + 4 * u32::from(h.monitors), h.conditions, out, first);
     let second = joined_texts(n, index, from, h.transitions, out, old.at);
     let actions = texts(n, old.from, h.actions, out, second);
     let third = guarded_all(n, from, h.transitions, h.conditions, out, actions.at);
-    copy(n, far(last), 2 * near(h.last), out, third)
+    copy(n, last as usize, 2 * usize::from(h.last), out, third)
 }
 
 // How long the network is: it is written where there is no room.

@@ -83,13 +83,11 @@ pub(crate) fn words(s: &[u8], from: u32, n: u8, out: &mut [u8], at: usize) -> us
     requires { (from ≤ 100000) × Room at (written word_bytes (table word_form n s.now from)) }
     ensures { Writes out.old out.new at (written word_bytes (table word_form n s.now from)) result }
 {
-    let mut left = n;
     let mut place = from;
     let mut here = at;
-    while 0 < left {
+    for _ in 0..n {
         here = put_word(out, here, sheet::word_at(s, place));
         place += 4;
-        left -= 1;
     }
     here
 }
@@ -99,11 +97,9 @@ pub(crate) fn copy(s: &[u8], from: usize, n: usize, out: &mut [u8], at: usize) -
     requires { (from + n ≤ length s.now) × (from + n ≤ 1000000) × Room at (take n (drop from s.now)) }
     ensures { Writes out.old out.new at (take n (drop from s.now)) result }
 {
-    let mut i = from;
     let mut here = at;
-    while i < from + n {
+    for i in from..from + n {
         here = put(out, here, s[i]);
-        i += 1;
     }
     here
 }
@@ -113,14 +109,12 @@ pub(crate) fn texts(s: &[u8], from: u32, n: u8, out: &mut [u8], at: usize) -> Bo
     requires { (after (text_form false) n s.now from ≤ length s.now) × (length s.now ≤ 65535) × Room at (texts_at s.now from n) }
     ensures { WritesTexts s.now out.old out.new from n at result }
 {
-    let mut left = n;
     let mut place = from;
     let mut here = at;
-    while 0 < left {
-        let size = 1 + wide(sheet::byte_at(s, place));
-        here = copy(s, far(place), far(size), out, here);
+    for _ in 0..n {
+        let size = 1 + u32::from(sheet::byte_at(s, place));
+        here = copy(s, place as usize, size as usize, out, here);
         place += size;
-        left -= 1;
     }
     Both {
         from: place,
@@ -134,15 +128,13 @@ fn count(s: &[u8], f: Frame, state: u8, unit: u8) -> u8
     ensures { result ≡ length (pairs_from 0 state unit (triples_at s.now f)) }
 {
     let mut found = 0;
-    let mut i: u8 = 0;
     let mut place = f.triples;
-    while i < f.count {
+    for _ in 0..f.count {
         let t = sheet::triple_at(s, place);
         if (t.state == state) & (t.unit == unit) {
             found += 1;
         }
         place += 4;
-        i += 1;
     }
     found
 }
@@ -152,16 +144,14 @@ fn pairs(s: &[u8], f: Frame, state: u8, unit: u8, out: &mut [u8], at: usize) -> 
     requires { (f.triples ≤ 100000) × Room at (written pair_bytes (pairs_from 0 state unit (triples_at s.now f))) }
     ensures { Writes out.old out.new at (written pair_bytes (pairs_from 0 state unit (triples_at s.now f))) result }
 {
-    let mut i: u8 = 0;
     let mut place = f.triples;
     let mut here = at;
-    while i < f.count {
+    for i in 0..f.count {
         let t = sheet::triple_at(s, place);
         if (t.state == state) & (t.unit == unit) {
             here = put_two(out, here, t.precondition, i);
         }
         place += 4;
-        i += 1;
     }
     here
 }
@@ -204,13 +194,11 @@ fn transitions(s: &[u8], f: Frame, from: u32, n: u8, out: &mut [u8], at: usize) 
     requires { (f.triples ≤ 100000) × (from ≤ 100000) × Room at (copied_bytes s.now f from n) }
     ensures { Writes out.old out.new at (copied_bytes s.now f from n) result }
 {
-    let mut left = n;
     let mut place = from;
     let mut here = at;
-    while 0 < left {
+    for _ in 0..n {
         here = transition(s, f, place, out, here);
         place += 6;
-        left -= 1;
     }
     here
 }
@@ -244,10 +232,8 @@ fn units(s: &[u8], f: Frame, state: u8, n: u8, out: &mut [u8], spot: Spot) -> Sp
     ensures { WritesAdded out.old out.new spot (joined n (λ u. back_at s.now f state u)) result }
 {
     let mut here = spot;
-    let mut unit: u8 = 0;
-    while unit < n {
+    for unit in 0..n {
         here = back(s, f, state, unit, out, here);
-        unit += 1;
     }
     here
 }
@@ -258,10 +244,8 @@ fn states(s: &[u8], f: Frame, n: u8, m: u8, out: &mut [u8], spot: Spot) -> Spot
     ensures { WritesAdded out.old out.new spot (added_at s.now f n m) result }
 {
     let mut here = spot;
-    let mut state: u8 = 0;
-    while state < n {
+    for state in 0..n {
         here = units(s, f, state, m, out, here);
-        state += 1;
     }
     here
 }
@@ -271,14 +255,12 @@ fn templates(s: &[u8], f: Frame, out: &mut [u8], at: usize) -> usize
     requires { (f.triples ≤ 100000) × Room at (templates_at s.now f) }
     ensures { Writes out.old out.new at (templates_at s.now f) result }
 {
-    let mut left = f.count;
     let mut place = f.triples;
     let mut here = at;
-    while 0 < left {
+    for _ in 0..f.count {
         let t = sheet::triple_at(s, place);
         here = put_two(out, here, t.unit, t.postcondition);
         place += 4;
-        left -= 1;
     }
     here
 }
@@ -289,7 +271,7 @@ fn tables(s: &[u8], h: Header, f: Frame, from: u32, out: &mut [u8], at: usize) -
     ensures { WritesTables s.now h f from out.old out.new at result }
 {
     let first = words(s, 14, h.monitors, out, at);
-    let conditions = texts(s, 14 + 4 * wide(h.monitors), h.conditions, out, first);
+    let conditions = texts(s, 14 + 4 * u32::from(h.monitors), h.conditions, out, first);
     let second = put_two(out, conditions.at, 1, 0);
     let actions = texts(s, conditions.from, h.actions, out, second);
     let third = put(out, actions.at, 0);
@@ -332,7 +314,7 @@ fn fill(s: &[u8], h: Header, f: Frame, from: u32, size: Spot, out: &mut [u8])
     requires { Prepared s.now h f from × Measures s.now size × (length (network_bytes s.now) ≤ length out.old) }
     ensures { out.new ≡ network_bytes s.now ++ drop (length (network_bytes s.now)) out.old }
 {
-    let n = near(h.transitions) + size.added;
+    let n = usize::from(h.transitions) + size.added;
     let net = Header {
         conditions: h.conditions + 1,
         actions: h.actions + 1,
@@ -362,22 +344,4 @@ pub(crate) fn translate(s: &[u8], out: &mut [u8]) -> Result<usize, Refusal>
     }
     fill(s, h, f, p.transitions, size, out);
     Ok(size.at)
-}
-
-pub(crate) fn near(x: u8) -> usize
-    ensures { (result ≡ x) × (result < 256) }
-{
-    x as usize
-}
-
-pub(crate) fn wide(x: u8) -> u32
-    ensures { (result ≡ x) × (result < 256) }
-{
-    x as u32
-}
-
-pub(crate) fn far(x: u32) -> usize
-    ensures { (result ≡ x) × (result < 4294967296) }
-{
-    x as usize
 }

@@ -226,9 +226,9 @@ module _ {n : List ℕ} {h : Header} {index : List ℕ} {from last : ℕ} (p : P
         next_fifth q r w = writing_next o at whole out here fifth sixth g q r w
 
       -- the templates are copied
-      module _ (g : Writing o at (table_bytes true (separated (network_of n))) out here sixth) (a k : ℕ) (ea : a ≡ last) (ek : k ≡ h.last) where
-        pub room_sixth : (a + 2 * k ≤ length n) × (a + 2 * k ≤ 1000000) × Room here (take (2 * k) (drop a n))
-        room_sixth = rw (ea, ek) (last_end, omega (arith, last_end, short), omega (arith, g.place, fits))
+      module _ (g : Writing o at (table_bytes true (separated (network_of n))) out here sixth) (k : ℕ) (ek : k ≡ h.last) where
+        pub room_sixth : (last + 2 * k ≤ length n) × (last + 2 * k ≤ 1000000) × Room here (take (2 * k) (drop last n))
+        room_sixth = rw ek (last_end, omega (arith, last_end, short), omega (arith, g.place, fits))
 
-        pub tables_done : (q : List ℕ) (r : ℕ) → Writes out q here (take (2 * k) (drop a n)) r → Writes o q at (table_bytes true (separated (network_of n))) r
-        tables_done q r w = writing_last o at whole out here sixth g q r (rw (ea, ek) at w)
+        pub tables_done : (q : List ℕ) (r : ℕ) → Writes out q here (take (2 * k) (drop last n)) r → Writes o q at (table_bytes true (separated (network_of n))) r
+        tables_done q r w = writing_last o at whole out here sixth g q r (rw ek at w)

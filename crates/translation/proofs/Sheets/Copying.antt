@@ -3,6 +3,7 @@ use mathlib.Core.Bool.{false}
 use mathlib.Core.Path.{◌≡◌, refl, sym, ap, ◌∙◌}
 use mathlib.Core.List.{List, [], ◌∷◌, ◌++◌}
 use Prim.Native.Nat.{ℕ, suc, ◌+◌, ◌-◌, ◌≤◌, ◌<◌}
+use native.Mathlib.Nat.{sub-zero}
 use native.Mathlib.Numerals.{add-one}
 use native.Mathlib.Omega.{arith}
 use lib.ListN.{length, get_or, take, drop}
@@ -56,10 +57,10 @@ whole_room at l m e h r = rw (e, take-length m) (omega arith, omega arith, r)
 pub whole_writes : (l m : List ℕ) → l ≡ m → {o q : List ℕ} {at r : ℕ} → Writes o q at (take (length l) l) r → Writes o q at m r
 whole_writes l m e w = rw (e, take-length m) at w
 
--- `left` texts are to be written, from `place` on.
-pub record WritingTexts (s : List ℕ) (from n : ℕ) (o : List ℕ) (at : ℕ) (out : List ℕ) (left place here : ℕ) : Type 0 where
-  pub writing : Writing o at (texts_at s from n) out here (texts_at s place left)
-  pub there : after (text_form false) left s place ≡ after (text_form false) n s from
+-- All but i texts are to be written, from `place` on.
+pub record WritingTexts (s : List ℕ) (from n : ℕ) (o : List ℕ) (at : ℕ) (out : List ℕ) (i place here : ℕ) : Type 0 where
+  pub writing : Writing o at (texts_at s from n) out here (texts_at s place (n - i))
+  pub there : after (text_form false) (n - i) s place ≡ after (text_form false) n s from
 
 -- the first text, and the rest
 texts_step : (s : List ℕ) (a n : ℕ) → texts_at s a (suc n) ≡ take ((text_form false).size (drop a s)) (drop a s) ++ texts_at s (a + (text_form false).size (drop a s)) n
@@ -69,42 +70,41 @@ texts_step s a n =
     ∙ ap (λ (l : List ℕ). take ((text_form false).size (drop a s)) (drop a s) ++ take (extent (text_form false) n l) l) (drop-drop ((text_form false).size (drop a s)) a s)
 
 module _ (s : List ℕ) (from n : ℕ) (o : List ℕ) (at : ℕ) where
-  pub texts_start : WritingTexts s from n o at o n from at
-  texts_start = record { writing = writing_start o at (texts_at s from n); there = refl }
+  pub texts_start : WritingTexts s from n o at o 0 from at
+  texts_start = record { writing = rw (sub-zero n) (writing_start o at (texts_at s from n)); there = rw (sub-zero n) refl }
 
-  module _ (out : List ℕ) (left place here : ℕ) (g : WritingTexts s from n o at out left place here) where
-    pub texts_end : left ≤ 0 → WritesTexts s o out from n at (record { from = place; at = here })
+  module _ (out : List ℕ) (i place here : ℕ) (g : WritingTexts s from n o at out i place here) where
+    pub texts_end : n ≤ i → WritesTexts s o out from n at (record { from = place; at = here })
     unfolding extent
     texts_end h =
-        let e : left ≡ 0 = omega arith in
+        let e : n - i ≡ 0 = omega arith in
         record {
           writes = writing_end o at (texts_at s from n) out here (rw e at g.writing);
           read = sym (after_none (text_form false) s place) ∙ rw e at g.there;
         }
 
     -- the next text: its length byte is b, read as w
-    module _ (h : 0 < left) (b w : ℕ) (e : b ≡ byte s place) (f : w ≡ b) where
-      more : left ≡ suc (left - 1)
+    module _ (h : i < n) (b w : ℕ) (e : b ≡ byte s place) (f : w ≡ b) where
+      more : n - i ≡ suc (n - (i + 1))
       more = omega arith
 
       sized : 1 + w ≡ (text_form false).size (drop place s)
       sized = ap (λ (x : ℕ). 1 + x) (f ∙ e ∙ byte_here s place)
 
-      text_there : after (text_form false) (left - 1) s (place + (1 + w)) ≡ after (text_form false) n s from
-      text_there = rw sized (sym (after_step (text_form false) (left - 1) s place) ∙ rw more at g.there)
+      text_there : after (text_form false) (n - (i + 1)) s (place + (1 + w)) ≡ after (text_form false) n s from
+      text_there = rw sized (sym (after_step (text_form false) (n - (i + 1)) s place) ∙ rw more at g.there)
 
       pub text_within : after (text_form false) n s from ≤ length s → place + (1 + w) ≤ length s
       text_within k = omega (arith, text_there)
 
-      module _ (a k : ℕ) (ea : a ≡ place) (ek : k ≡ 1 + w) where
-        abbrev text_rest : List ℕ
-        text_rest = texts_at s (place + (1 + w)) (left - 1)
+      abbrev text_rest : List ℕ
+      text_rest = texts_at s (place + (1 + w)) (n - (i + 1))
 
-        text_parts : Writing o at (texts_at s from n) out here (take k (drop a s) ++ text_rest)
-        text_parts = rw (ea, ek, sized, ← texts_step s place (left - 1), ← more) g.writing
+      text_parts : Writing o at (texts_at s from n) out here (take (1 + w) (drop place s) ++ text_rest)
+      text_parts = rw (sized, ← texts_step s place (n - (i + 1)), ← more) g.writing
 
-        pub texts_room : Room at (texts_at s from n) → Room here (take k (drop a s))
-        texts_room = writing_room o at (texts_at s from n) out here (take k (drop a s)) text_rest text_parts
+      pub texts_room : Room at (texts_at s from n) → Room here (take (1 + w) (drop place s))
+      texts_room = writing_room o at (texts_at s from n) out here (take (1 + w) (drop place s)) text_rest text_parts
 
-        pub texts_next : (p : List ℕ) (r : ℕ) → Writes out p here (take k (drop a s)) r → WritingTexts s from n o at p (left - 1) (place + (1 + w)) r
-        texts_next p r v = record { writing = writing_next o at (texts_at s from n) out here (take k (drop a s)) text_rest text_parts p r v; there = text_there }
+      pub texts_next : (p : List ℕ) (r : ℕ) → Writes out p here (take (1 + w) (drop place s)) r → WritingTexts s from n o at p (i + 1) (place + (1 + w)) r
+      texts_next p r v = record { writing = writing_next o at (texts_at s from n) out here (take (1 + w) (drop place s)) text_rest text_parts p r v; there = text_there }

@@ -17,7 +17,7 @@ wide_texts-old-requires c =
     let at = b.args.at in
     let e = b.requires.1 in
     let g1 = next_first p o at e _ _ c.words-first.ensures in
-    let k = words_after b.args.n.now _ _ c.wide.ensures.0 in
+    let k = words_after b.args.n.now _ _ c.from.ensures in
     (rw k (conditions_end p), omega (arith, short p), room_second p o at e _ _ g1 _ k)
 
 pub joined_texts-second-requires : goal.joined_texts-second-requires
@@ -28,7 +28,7 @@ joined_texts-second-requires c =
     let at = b.args.at in
     let e = b.requires.1 in
     let g1 = next_first p o at e _ _ c.words-first.ensures in
-    let k = words_after b.args.n.now _ _ c.wide.ensures.0 in
+    let k = words_after b.args.n.now _ _ c.from.ensures in
     let g2 = next_second p o at e _ _ g1 _ k _ _ c.wide_texts-old.ensures in
     (p.network, (counted p).0, room_third p o at e _ _ g2)
 
@@ -40,7 +40,7 @@ texts-actions-requires c =
     let at = b.args.at in
     let e = b.requires.1 in
     let g1 = next_first p o at e _ _ c.words-first.ensures in
-    let k = words_after b.args.n.now _ _ c.wide.ensures.0 in
+    let k = words_after b.args.n.now _ _ c.from.ensures in
     let g2 = next_second p o at e _ _ g1 _ k _ _ c.wide_texts-old.ensures in
     let m = read_second p o at e _ _ g1 _ k _ _ c.wide_texts-old.ensures in
     let g3 = next_third p o at e _ _ g2 _ _ c.joined_texts-second.ensures in
@@ -54,7 +54,7 @@ guarded_all-third-requires c =
     let at = b.args.at in
     let e = b.requires.1 in
     let g1 = next_first p o at e _ _ c.words-first.ensures in
-    let k = words_after b.args.n.now _ _ c.wide.ensures.0 in
+    let k = words_after b.args.n.now _ _ c.from.ensures in
     let g2 = next_second p o at e _ _ g1 _ k _ _ c.wide_texts-old.ensures in
     let m = read_second p o at e _ _ g1 _ k _ _ c.wide_texts-old.ensures in
     let g3 = next_third p o at e _ _ g2 _ _ c.joined_texts-second.ensures in
@@ -69,13 +69,13 @@ copy-requires c =
     let at = b.args.at in
     let e = b.requires.1 in
     let g1 = next_first p o at e _ _ c.words-first.ensures in
-    let k = words_after b.args.n.now _ _ c.wide.ensures.0 in
+    let k = words_after b.args.n.now _ _ c.from.ensures in
     let g2 = next_second p o at e _ _ g1 _ k _ _ c.wide_texts-old.ensures in
     let m = read_second p o at e _ _ g1 _ k _ _ c.wide_texts-old.ensures in
     let g3 = next_third p o at e _ _ g2 _ _ c.joined_texts-second.ensures in
     let g4 = next_fourth p o at e _ _ g3 _ m _ _ c.texts-actions.ensures in
     let g5 = next_fifth p o at e _ _ g4 _ _ c.guarded_all-third.ensures in
-    room_sixth p o at e _ _ g5 _ _ c.far.ensures.0 c.near.ensures.0
+    room_sixth p o at e _ _ g5 _ c.from-2.ensures
 
 pub returns : goal.returns
 returns c =
@@ -85,10 +85,10 @@ returns c =
     let at = b.args.at in
     let e = b.requires.1 in
     let g1 = next_first p o at e _ _ c.words-first.ensures in
-    let k = words_after b.args.n.now _ _ c.wide.ensures.0 in
+    let k = words_after b.args.n.now _ _ c.from.ensures in
     let g2 = next_second p o at e _ _ g1 _ k _ _ c.wide_texts-old.ensures in
     let m = read_second p o at e _ _ g1 _ k _ _ c.wide_texts-old.ensures in
     let g3 = next_third p o at e _ _ g2 _ _ c.joined_texts-second.ensures in
     let g4 = next_fourth p o at e _ _ g3 _ m _ _ c.texts-actions.ensures in
     let g5 = next_fifth p o at e _ _ g4 _ _ c.guarded_all-third.ensures in
-    tables_done p o at e _ _ g5 _ _ c.far.ensures.0 c.near.ensures.0 _ _ c.copy.ensures
+    tables_done p o at e _ _ g5 _ c.from-2.ensures _ _ c.copy.ensures
