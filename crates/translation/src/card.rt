@@ -9,10 +9,10 @@ ghost use Rattle.sheet.specs.Reading.{reading, sheet_layout, network_layout, con
 ghost use Rattle.translation.specs.Card.{is_of, joined_text, joined_conditions, guarded_by, guarded_from, separated};
 ghost use Rattle.translation.specs.Answer.{translated_paper, translated_with, buffer_with, card_of, card_buffer_of};
 ghost use Rattle.translation.specs.Walk.{Room, Writes};
-ghost use Rattle.translation.specs.CardWalk.{Narrow, PreparedNetwork, earlier_in, WritesWide, separated_bytes, joined_short, separate_refusal};
+ghost use Rattle.translation.specs.CardWalk.{Narrow, PreparedNetwork, earlier_in, separated_bytes, joined_short, separate_refusal};
 
 use crate::write;
-use crate::write::{Both, base, copy, header, put_half, put_two, texts, words};
+use crate::write::{base, header, put, texts, words};
 use refusal::Refusal;
 use sheet::{Header, Transition};
 
@@ -37,7 +37,7 @@ fn condition(n: &[u8], index: &[u32; 161], from: u32, i: u8, out: &mut [u8], at:
     ensures { Writes out.old out.new at (condition_in (common_of n.now) i) result }
 {
     let text = sheet::condition_at(n, index[usize::from(i)]);
-    copy(text, 0, text.len(), out, at)
+    put(out, at, text)
 }
 
 // The joined condition of a transition behind the first k.
@@ -58,7 +58,7 @@ fn joined(
     for _ in 0..k {
         let u = sheet::transition_at(n, place);
         if same(t, u) {
-            let next = put_two(out, here, 2, 1);
+            let next = put(out, here, &[2, 1]);
             here = condition(n, index, from, u.condition, out, next);
         }
         place += size_at(n, place);
@@ -107,30 +107,11 @@ fn joined_texts(
     for k in 0..count {
         let t = sheet::transition_at(n, place);
         let size = joined_size(n, index, from, k, t);
-        let next = put_half(out, here, size as u16);
+        let next = put(out, here, &(size as u16).to_be_bytes());
         here = joined(n, index, from, k, t, out, next);
         place += size_at(n, place);
     }
     here
-}
-
-// The old conditions, from a place on, each with its length in two bytes.
-fn wide_texts(n: &[u8], from: u32, count: u8, out: &mut [u8], at: usize) -> Both
-    requires { (after (text_form false) count n.now from ≤ length n.now) × (length n.now ≤ 65535) × Room at (written (text_bytes true) (table (text_form false) count n.now from)) }
-    ensures { WritesWide n.now out.old out.new from count at result }
-{
-    let mut place = from;
-    let mut here = at;
-    for _ in 0..count {
-        let size = u32::from(sheet::byte_at(n, place));
-        let next = put_half(out, here, size as u16);
-        here = copy(n, place as usize + 1, size as usize, out, next);
-        place += 1 + size;
-    }
-    Both {
-        from: place,
-        at: here,
-    }
 }
 
 // A transition, with the number of its new condition and the pairs that it had.
@@ -147,13 +128,8 @@ fn guarded(n: &[u8], place: u32, number: u8, out: &mut [u8], at: usize) -> usize
             ..t
         },
     );
-    copy(
-        n,
-        place as usize + 6,
-        size_at(n, place) as usize - 6,
-        out,
-        next,
-    )
+    let end = place + size_at(n, place);
+    put(out, next, &n[place as usize + 6..end as usize])
 }
 
 // All of them; the first has this number.
@@ -184,11 +160,19 @@ fn tables(
     ensures { Writes out.old out.new at (table_bytes true (separated (network_of n.now))) result }
 {
     let first = words(n, 14, h.monitors, out, at);
-    let old = wide_texts(n, 14 + 4 * u32::from(h.monitors), h.conditions, out, first);
+    let old = texts(
+        n,
+        14 + 4 * u32::from(h.monitors),
+        h.conditions,
+        true,
+        out,
+        first,
+    );
     let second = joined_texts(n, index, from, h.transitions, out, old.at);
-    let actions = texts(n, old.from, h.actions, out, second);
+    let actions = texts(n, old.from, h.actions, false, out, second);
     let third = guarded_all(n, from, h.transitions, h.conditions, out, actions.at);
-    copy(n, last as usize, 2 * usize::from(h.last), out, third)
+    let start = last as usize;
+    put(out, third, &n[start..start + 2 * usize::from(h.last)])
 }
 
 // How long the network is: it is written where there is no room.

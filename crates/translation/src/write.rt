@@ -3,7 +3,7 @@
 ghost use Rattle.std.specs.Prelude.{false, ◌≡◌, [], ◌∷◌, ◌++◌, map, ◌+◌, ◌≤◌, ◌<◌, length, set, take, drop};
 ghost use Rattle.sheet.specs.Table.{table, after};
 ghost use Rattle.sheet.specs.Decode.{word_form, text_form, transition_of};
-ghost use Rattle.sheet.specs.Encode.{half_bytes, word_bytes, pair_bytes, paired_bytes, written};
+ghost use Rattle.sheet.specs.Encode.{length_bytes, word_bytes, pair_bytes, paired_bytes, written};
 ghost use Rattle.translation.specs.Translate.{pairs_from, joined};
 ghost use Rattle.sheet.specs.Reading.{reading, sheet_layout};
 ghost use Rattle.translation.specs.Answer.{network_bytes, translated_paper, translated_of, buffer_of};
@@ -36,46 +36,17 @@ pub struct Both {
     pub at: usize,
 }
 
-// One byte.
-fn put(out: &mut [u8], at: usize, b: u8) -> usize
-    requires { Room at (b ∷ []) }
-    ensures { Writes out.old out.new at (b ∷ []) result }
+// Bytes one behind the other: each is stored where there is room for it.
+pub(crate) fn put(out: &mut [u8], at: usize, bytes: &[u8]) -> usize
+    requires { Room at bytes.now }
+    ensures { Writes out.old out.new at bytes.now result }
 {
-    if at < out.len() {
-        out[at] = b;
+    for (i, b) in bytes.iter().enumerate() {
+        if at + i < out.len() {
+            out[at + i] = *b;
+        }
     }
-    at + 1
-}
-
-// Two bytes.
-pub(crate) fn put_two(out: &mut [u8], at: usize, a: u8, b: u8) -> usize
-    requires { Room at (a ∷ b ∷ []) }
-    ensures { Writes out.old out.new at (a ∷ b ∷ []) result }
-{
-    let next = put(out, at, a);
-    put(out, next, b)
-}
-
-// A number in two bytes.
-pub(crate) fn put_half(out: &mut [u8], at: usize, m: u16) -> usize
-    requires { Room at (half_bytes m) }
-    ensures { Writes out.old out.new at (half_bytes m) result }
-{
-    put_two(out, at, (m / 256) as u8, (m % 256) as u8)
-}
-
-// A word.
-fn put_word(out: &mut [u8], at: usize, m: u32) -> usize
-    requires { Room at (word_bytes m) }
-    ensures { Writes out.old out.new at (word_bytes m) result }
-{
-    let next = put_two(
-        out,
-        at,
-        (m / 256 / 256 / 256) as u8,
-        (m / 256 / 256 % 256) as u8,
-    );
-    put_two(out, next, (m / 256 % 256) as u8, (m % 256) as u8)
+    at + bytes.len()
 }
 
 // Words of a sheet, from a place on.
@@ -86,35 +57,36 @@ pub(crate) fn words(s: &[u8], from: u32, n: u8, out: &mut [u8], at: usize) -> us
     let mut place = from;
     let mut here = at;
     for _ in 0..n {
-        here = put_word(out, here, sheet::word_at(s, place));
+        here = put(out, here, &sheet::word_at(s, place).to_be_bytes());
         place += 4;
     }
     here
 }
 
-// Bytes of a sheet, from a place on.
-pub(crate) fn copy(s: &[u8], from: usize, n: usize, out: &mut [u8], at: usize) -> usize
-    requires { (from + n ≤ length s.now) × (from + n ≤ 1000000) × Room at (take n (drop from s.now)) }
-    ensures { Writes out.old out.new at (take n (drop from s.now)) result }
+// A length, in one byte or in two.
+fn put_length(out: &mut [u8], at: usize, wide: bool, size: u8) -> usize
+    requires { Room at (length_bytes wide size) }
+    ensures { Writes out.old out.new at (length_bytes wide size) result }
 {
-    let mut here = at;
-    for i in from..from + n {
-        here = put(out, here, s[i]);
+    if wide {
+        put(out, at, &u16::from(size).to_be_bytes())
+    } else {
+        put(out, at, &[size])
     }
-    here
 }
 
-// Texts of a sheet, from a place on, with their length bytes.
-pub(crate) fn texts(s: &[u8], from: u32, n: u8, out: &mut [u8], at: usize) -> Both
-    requires { (after (text_form false) n s.now from ≤ length s.now) × (length s.now ≤ 65535) × Room at (texts_at s.now from n) }
-    ensures { WritesTexts s.now out.old out.new from n at result }
+// Texts from a place on, where each has a length byte, with lengths in one byte or in two.
+pub(crate) fn texts(s: &[u8], from: u32, n: u8, wide: bool, out: &mut [u8], at: usize) -> Both
+    requires { (after (text_form false) n s.now from ≤ length s.now) × (length s.now ≤ 65535) × Room at (texts_at wide s.now from n) }
+    ensures { WritesTexts wide s.now out.old out.new from n at result }
 {
     let mut place = from;
     let mut here = at;
     for _ in 0..n {
-        let size = 1 + u32::from(sheet::byte_at(s, place));
-        here = copy(s, place as usize, size as usize, out, here);
-        place += size;
+        let size = sheet::byte_at(s, place);
+        let next = put_length(out, here, wide, size);
+        here = put(out, next, sheet::action_at(s, place));
+        place += 1 + u32::from(size);
     }
     Both {
         from: place,
@@ -149,7 +121,7 @@ fn pairs(s: &[u8], f: Frame, state: u8, unit: u8, out: &mut [u8], at: usize) -> 
     for i in 0..f.count {
         let t = sheet::triple_at(s, place);
         if (t.state == state) & (t.unit == unit) {
-            here = put_two(out, here, t.precondition, i);
+            here = put(out, here, &[t.precondition, i]);
         }
         place += 4;
     }
@@ -161,7 +133,7 @@ fn with_pairs(s: &[u8], f: Frame, state: u8, unit: u8, out: &mut [u8], at: usize
     requires { (f.triples ≤ 100000) × Room at (counted_pairs (pairs_from 0 state unit (triples_at s.now f))) }
     ensures { Writes out.old out.new at (counted_pairs (pairs_from 0 state unit (triples_at s.now f))) result }
 {
-    let next = put(out, at, count(s, f, state, unit));
+    let next = put(out, at, &[count(s, f, state, unit)]);
     pairs(s, f, state, unit, out, next)
 }
 
@@ -170,9 +142,11 @@ pub(crate) fn base(out: &mut [u8], at: usize, t: Transition) -> usize
     requires { Room at (base_bytes t) }
     ensures { Writes out.old out.new at (base_bytes t) result }
 {
-    let second = put_two(out, at, t.from, t.kind);
-    let third = put_two(out, second, t.unit, t.condition);
-    put_two(out, third, t.action, t.to)
+    put(
+        out,
+        at,
+        &[t.from, t.kind, t.unit, t.condition, t.action, t.to],
+    )
 }
 
 // A transition of the sheet, an entry one with its pairs.
@@ -185,7 +159,7 @@ fn transition(s: &[u8], f: Frame, place: u32, out: &mut [u8], at: usize) -> usiz
     if t.kind == 0 {
         with_pairs(s, f, t.from, t.unit, out, next)
     } else {
-        put(out, next, 0)
+        put(out, next, &[0])
     }
 }
 
@@ -259,7 +233,7 @@ fn templates(s: &[u8], f: Frame, out: &mut [u8], at: usize) -> usize
     let mut here = at;
     for _ in 0..f.count {
         let t = sheet::triple_at(s, place);
-        here = put_two(out, here, t.unit, t.postcondition);
+        here = put(out, here, &[t.unit, t.postcondition]);
         place += 4;
     }
     here
@@ -271,10 +245,17 @@ fn tables(s: &[u8], h: Header, f: Frame, from: u32, out: &mut [u8], at: usize) -
     ensures { WritesTables s.now h f from out.old out.new at result }
 {
     let first = words(s, 14, h.monitors, out, at);
-    let conditions = texts(s, 14 + 4 * u32::from(h.monitors), h.conditions, out, first);
-    let second = put_two(out, conditions.at, 1, 0);
-    let actions = texts(s, conditions.from, h.actions, out, second);
-    let third = put(out, actions.at, 0);
+    let conditions = texts(
+        s,
+        14 + 4 * u32::from(h.monitors),
+        h.conditions,
+        false,
+        out,
+        first,
+    );
+    let second = put(out, conditions.at, &[1, 0]);
+    let actions = texts(s, conditions.from, h.actions, false, out, second);
+    let third = put(out, actions.at, &[0]);
     let fourth = transitions(s, f, from, h.transitions, out, third);
     let spot = Spot {
         at: fourth,
@@ -291,13 +272,18 @@ fn tables(s: &[u8], h: Header, f: Frame, from: u32, out: &mut [u8], at: usize) -
 pub(crate) fn header(out: &mut [u8], h: Header, size: u16, version: u8) -> usize
     ensures { Writes out.old out.new 0 (header_at h size version) result }
 {
-    let second = put_half(out, 0, size);
-    let third = put_two(out, second, version, h.states);
-    let fourth = put_two(out, third, h.units, h.programs);
-    let fifth = put_two(out, fourth, h.monitors, h.start);
-    let sixth = put_half(out, fifth, h.bad);
-    let last = put_two(out, sixth, h.conditions, h.actions);
-    put_two(out, last, h.transitions, h.last)
+    let second = put(out, 0, &size.to_be_bytes());
+    let third = put(
+        out,
+        second,
+        &[version, h.states, h.units, h.programs, h.monitors, h.start],
+    );
+    let fourth = put(out, third, &h.bad.to_be_bytes());
+    put(
+        out,
+        fourth,
+        &[h.conditions, h.actions, h.transitions, h.last],
+    )
 }
 
 // How long the network is, and how many transitions are added: it is written where there is no room.

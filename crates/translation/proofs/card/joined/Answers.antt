@@ -8,8 +8,8 @@ use Rattle.translation.proofs.card.joined.Goals.{else-same, then-same}
 pub loop-init : goal.loop-init
 loop-init c = joining_start c.requires.0 _ _ _ _
 
-pub put_two-next-requires : goal.put_two-next-requires
-put_two-next-requires c =
+pub put-next-requires : goal.put-next-requires
+put-next-requires c =
     let pre = c.requires in
     joining_room_two pre.0 _ _ _ _ _ _ _ _ c.loop.invariant c.loop-test.true pre.1 _ c.transition_at-u.ensures (sym c.same.ensures ∙ c.if-same.true) pre.3
 
@@ -19,7 +19,7 @@ condition-here-requires c =
     let g = c.loop.invariant in
     let h = c.loop-test.true in
     let e = c.transition_at-u.ensures in
-    (pre.0, joining_there pre.0 _ _ _ _ _ _ _ _ g h pre.1 _ e, joining_room_old pre.0 _ _ _ _ _ _ _ _ g h pre.1 _ e (sym c.same.ensures ∙ c.if-same.true) _ _ c.put_two-next.ensures pre.3)
+    (pre.0, joining_there pre.0 _ _ _ _ _ _ _ _ g h pre.1 _ e, joining_room_old pre.0 _ _ _ _ _ _ _ _ g h pre.1 _ e (sym c.same.ensures ∙ c.if-same.true) _ _ c.put-next.ensures pre.3)
 
 pub size_at-place-requires : goal.size_at-place-requires
 size_at-place-requires c = (joining_small c.requires.0 _ _ _ _ _ _ _ _ c.loop.invariant c.loop-test.true c.requires.1).0
@@ -35,7 +35,7 @@ loop-preserved c =
     let e = c.transition_at-u.ensures in
     let s = c.same.ensures in
     rw c.size_at-place.ensures.0
-    (elim c.if-same.branch [ then-same w ↦ rw (w.out-is, w.here-is) (joining_next pre.0 _ _ _ _ _ _ _ _ g h pre.1 _ e (sym s ∙ w.if-same.true) _ _ w.put_two-next.ensures _ _ w.condition-here.ensures) | else-same w ↦ rw (w.out-is, w.here-is) (joining_other pre.0 _ _ _ _ _ _ _ _ g h pre.1 _ e (sym s ∙ w.if-same.false)) ])
+    (elim c.if-same.branch [ then-same w ↦ rw (w.out-is, w.here-is) (joining_next pre.0 _ _ _ _ _ _ _ _ g h pre.1 _ e (sym s ∙ w.if-same.true) _ _ w.put-next.ensures _ _ w.condition-here.ensures) | else-same w ↦ rw (w.out-is, w.here-is) (joining_other pre.0 _ _ _ _ _ _ _ _ g h pre.1 _ e (sym s ∙ w.if-same.false)) ])
 
 pub condition-requires : goal.condition-requires
 condition-requires c =
