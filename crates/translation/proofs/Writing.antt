@@ -20,6 +20,11 @@ sets_append l i (a ∷ x) y = sets_append (set l i a) (suc i) x y ∙ ap (λ (k 
 pub writes_length : {o p : List ℕ} {at : ℕ} {l : List ℕ} {r : ℕ} → Writes o p at l r → length p ≡ length o
 writes_length {o} {p} {at} {l} w = ap length w.all ∙ length-sets o at l
 
+-- one byte, stored where there is room
+pub stored_is : (o p : List ℕ) (at b : ℕ) → ((at < length o) × (p ≡ set o at b)) ⊎ ((length o ≤ at) × (p ≡ o)) → Writes o p at (b ∷ []) (at + 1)
+stored_is o p at b (inl (h, e)) = record { all = e; next = refl }
+stored_is o p at b (inr (h, e)) = record { all = e ∙ sym (set_out o at b h); next = refl }
+
 -- Bytes are stored one by one: with those from i on, out becomes what o becomes with all.
 module _ (o : List ℕ) (at : ℕ) (bytes : List ℕ) where
   pub record Storing (out : List ℕ) (i : ℕ) : Type 0 where
@@ -34,12 +39,8 @@ module _ (o : List ℕ) (at : ℕ) (bytes : List ℕ) where
   -- one more, where there is room
   pub storing_next : (out p : List ℕ) (i : ℕ) → Storing out i → i < length bytes
       → ((at + i < length out) × (p ≡ set out (at + i) (get_or bytes i 0))) ⊎ ((length out ≤ at + i) × (p ≡ out)) → Storing p (i + 1)
-  storing_next out p i g h s = record { all = rw (stored s) (step ∙ rw (drop-cons bytes i 0 h) at g.all) }
+  storing_next out p i g h s = record { all = rw (stored_is out p (at + i) (get_or bytes i 0) s).all (step ∙ rw (drop-cons bytes i 0 h) at g.all) }
     where
-      stored : ((at + i < length out) × (p ≡ set out (at + i) (get_or bytes i 0))) ⊎ ((length out ≤ at + i) × (p ≡ out)) → p ≡ set out (at + i) (get_or bytes i 0)
-      stored (inl (_, e)) = e
-      stored (inr (k, e)) = e ∙ sym (set_out out (at + i) (get_or bytes i 0) k)
-
       step : sets (set out (at + i) (get_or bytes i 0)) (at + (i + 1)) (drop (i + 1) bytes) ≡ sets out (at + i) (get_or bytes i 0 ∷ drop (suc i) bytes)
       step = rw (add-one i) (ap (λ (k : ℕ). sets (set out (at + i) (get_or bytes i 0)) k (drop (suc i) bytes)) (omega arith))
 
