@@ -3,8 +3,8 @@ use native.Mathlib.Omega.{arith}
 use Rattle.translation.proofs.Cards.Reaching.{few_conditions_lem, condition_is}
 use Rattle.translation.proofs.card.condition.Goals as goal
 
-pub bounds-index-from : goal.bounds-index-from
-bounds-index-from c =
+pub bounds-net-from : goal.bounds-net-from
+bounds-net-from c =
     let pre = c.requires in
     omega (arith, c.from.ensures, pre.1, few_conditions_lem pre.0)
 

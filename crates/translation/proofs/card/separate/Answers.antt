@@ -8,14 +8,14 @@ use Rattle.translation.proofs.card.separate.Goals as goal
 pub all_short-requires : goal.all_short-requires
 all_short-requires c =
     let pre = c.requires in
-    let p = opened_with _ pre.0 pre.1 _ c.header_of-h.ensures _ c.network_places-p.ensures in
+    let p = opened_with _ pre.0 pre.1 _ c.header_of.ensures _ c.network_places-p.ensures in
     (p.network, (counted p).0)
 
 pub returns-else-all_short : goal.returns-else-all_short
 returns-else-all_short c = joined_long _ _ (sym c.all_short.ensures ∙ c.if-all_short.false)
 
 pub measure-size-requires : goal.measure-size-requires
-measure-size-requires c = opened_with _ c.requires.0 c.requires.1 _ c.header_of-h.ensures _ c.network_places-p.ensures
+measure-size-requires c = opened_with _ c.requires.0 c.requires.1 _ c.header_of.ensures _ c.network_places-p.ensures
 
 pub returns-then-size-gt65535 : goal.returns-then-size-gt65535
 returns-then-size-gt65535 c = whole_long _ _ _ c.measure-size.ensures.0 c.if-size-gt65535.true
@@ -26,7 +26,7 @@ returns-then-out-size c = buffer_short _ _ _ c.measure-size.ensures.0 (sym c.all
 pub fill-requires : goal.fill-requires
 fill-requires c =
     let m = c.measure-size.ensures.0 in
-    (opened_with _ c.requires.0 c.requires.1 _ c.header_of-h.ensures _ c.network_places-p.ensures, m, omega (arith, m, c.if-out-size.false))
+    (opened_with _ c.requires.0 c.requires.1 _ c.header_of.ensures _ c.network_places-p.ensures, m, omega (arith, m, c.if-out-size.false))
 
 pub returns : goal.returns
 returns c = buffer_holds _ _ _ c.measure-size.ensures.0 (sym c.all_short.ensures ∙ c.if-all_short.true) c.if-size-gt65535.false c.if-out-size.false _ c.fill.ensures

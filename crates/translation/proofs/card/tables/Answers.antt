@@ -9,6 +9,18 @@ words-first-requires c =
     let b = c in
     (omega arith, room_first b.requires.0 b.args.out.now b.args.at b.requires.1)
 
+pub overflow_mul-from : goal.overflow_mul-from
+overflow_mul-from c =
+    let p = c.requires.0 in
+    let k = words_after c.args.net.now.n.now _ _ c.from.ensures in
+    record { fits = omega (arith, k, conditions_end p, short p) }
+
+pub overflow_add-from : goal.overflow_add-from
+overflow_add-from c =
+    let p = c.requires.0 in
+    let k = words_after c.args.net.now.n.now _ _ c.from.ensures in
+    record { fits = omega (arith, k, conditions_end p, short p) }
+
 pub texts-old-requires : goal.texts-old-requires
 texts-old-requires c =
     let b = c in
@@ -17,7 +29,7 @@ texts-old-requires c =
     let at = b.args.at in
     let e = b.requires.1 in
     let g1 = next_first p o at e _ _ c.words-first.ensures in
-    let k = words_after b.args.n.now _ _ c.from.ensures in
+    let k = words_after b.args.net.now.n.now _ _ c.from.ensures in
     (rw k (conditions_end p), omega (arith, short p), room_second p o at e _ _ g1 _ k)
 
 pub joined_texts-second-requires : goal.joined_texts-second-requires
@@ -28,7 +40,7 @@ joined_texts-second-requires c =
     let at = b.args.at in
     let e = b.requires.1 in
     let g1 = next_first p o at e _ _ c.words-first.ensures in
-    let k = words_after b.args.n.now _ _ c.from.ensures in
+    let k = words_after b.args.net.now.n.now _ _ c.from.ensures in
     let g2 = next_second p o at e _ _ g1 _ k _ _ c.texts-old.ensures in
     (p.network, (counted p).0, room_third p o at e _ _ g2)
 
@@ -40,7 +52,7 @@ texts-actions-requires c =
     let at = b.args.at in
     let e = b.requires.1 in
     let g1 = next_first p o at e _ _ c.words-first.ensures in
-    let k = words_after b.args.n.now _ _ c.from.ensures in
+    let k = words_after b.args.net.now.n.now _ _ c.from.ensures in
     let g2 = next_second p o at e _ _ g1 _ k _ _ c.texts-old.ensures in
     let m = read_second p o at e _ _ g1 _ k _ _ c.texts-old.ensures in
     let g3 = next_third p o at e _ _ g2 _ _ c.joined_texts-second.ensures in
@@ -54,7 +66,7 @@ guarded_all-third-requires c =
     let at = b.args.at in
     let e = b.requires.1 in
     let g1 = next_first p o at e _ _ c.words-first.ensures in
-    let k = words_after b.args.n.now _ _ c.from.ensures in
+    let k = words_after b.args.net.now.n.now _ _ c.from.ensures in
     let g2 = next_second p o at e _ _ g1 _ k _ _ c.texts-old.ensures in
     let m = read_second p o at e _ _ g1 _ k _ _ c.texts-old.ensures in
     let g3 = next_third p o at e _ _ g2 _ _ c.joined_texts-second.ensures in
@@ -69,13 +81,19 @@ put-requires c =
     let at = b.args.at in
     let e = b.requires.1 in
     let g1 = next_first p o at e _ _ c.words-first.ensures in
-    let k = words_after b.args.n.now _ _ c.from.ensures in
+    let k = words_after b.args.net.now.n.now _ _ c.from.ensures in
     let g2 = next_second p o at e _ _ g1 _ k _ _ c.texts-old.ensures in
     let m = read_second p o at e _ _ g1 _ k _ _ c.texts-old.ensures in
     let g3 = next_third p o at e _ _ g2 _ _ c.joined_texts-second.ensures in
     let g4 = next_fourth p o at e _ _ g3 _ m _ _ c.texts-actions.ensures in
     let g5 = next_fifth p o at e _ _ g4 _ _ c.guarded_all-third.ensures in
     room_sixth p o at e _ _ g5 _ c.from-2.ensures
+
+pub overflow_mul-from-2 : goal.overflow_mul-from-2
+overflow_mul-from-2 c = record { fits = omega (arith, last_end c.requires.0, short c.requires.0, c.from-2.ensures) }
+
+pub overflow_add-start : goal.overflow_add-start
+overflow_add-start c = record { fits = omega (arith, last_end c.requires.0, short c.requires.0, c.from-2.ensures) }
 
 pub slice_bounds-put-end : goal.slice_bounds-put-end
 slice_bounds-put-end c = omega (arith, last_end c.requires.0, c.from-2.ensures)
@@ -88,7 +106,7 @@ returns c =
     let at = b.args.at in
     let e = b.requires.1 in
     let g1 = next_first p o at e _ _ c.words-first.ensures in
-    let k = words_after b.args.n.now _ _ c.from.ensures in
+    let k = words_after b.args.net.now.n.now _ _ c.from.ensures in
     let g2 = next_second p o at e _ _ g1 _ k _ _ c.texts-old.ensures in
     let m = read_second p o at e _ _ g1 _ k _ _ c.texts-old.ensures in
     let g3 = next_third p o at e _ _ g2 _ _ c.joined_texts-second.ensures in
