@@ -8,6 +8,7 @@ use Rattle.sheet.specs.Decode.{wide, paired_form, transitions_at, last_at, netwo
 use Rattle.sheet.specs.Encode.{encode}
 use Rattle.sheet.specs.Reading.{unless, reading, network_layout}
 use Rattle.sheet.specs.Answer.{header_of, places_of}
+use Rattle.translation.specs.declared.card.Network.{Network}
 use Rattle.translation.specs.Card.{joined_conditions, separated}
 
 -- An accepted network of version 2, the index of its conditions, and where its transitions stand.
@@ -22,6 +23,13 @@ pub record PreparedNetwork (n : List ℕ) (h : Header) (index : List ℕ) (trans
   pub network : Narrow n index transitions
   pub header : h ≡ header_of n
   pub templates : last ≡ last_at paired_form n
+
+-- the same of a network as it is handed on
+abbrev pub Narrowed : Network → Type 0
+Narrowed net = Narrow net.n.now net.p.now.conditions net.p.now.transitions
+
+abbrev pub Prepared : Network → Type 0
+Prepared net = PreparedNetwork net.n.now net.h net.p.now.conditions net.p.now.transitions net.p.now.last
 
 -- its first k transitions
 abbrev pub earlier_in : List ℕ → ℕ → List Transition

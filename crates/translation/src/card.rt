@@ -9,7 +9,7 @@ ghost use Rattle.sheet.specs.Reading.{reading, sheet_layout, network_layout, con
 ghost use Rattle.translation.specs.Card.{is_of, joined_text, joined_conditions, guarded_by, guarded_from, separated};
 ghost use Rattle.translation.specs.Answer.{translated_paper, translated_with, buffer_with, card_of, card_buffer_of};
 ghost use Rattle.translation.specs.Walk.{Room, Writes};
-ghost use Rattle.translation.specs.CardWalk.{Narrow, PreparedNetwork, earlier_in, separated_bytes, joined_short, separate_refusal};
+ghost use Rattle.translation.specs.CardWalk.{Narrowed, Prepared, earlier_in, separated_bytes, joined_short, separate_refusal};
 
 use crate::write;
 use crate::write::{base, header, put, texts, words};
@@ -18,10 +18,10 @@ use sheet::{Header, Places, Transition};
 
 // A network of version 2, with its header and where its parts stand.
 #[derive(Clone, Copy)]
-struct Network<'a> {
-    n: &'a [u8],
-    h: Header,
-    p: &'a Places,
+pub struct Network<'a> {
+    pub n: &'a [u8],
+    pub h: Header,
+    pub p: &'a Places,
 }
 
 // Whether a transition is of another's state, kind and unit.
@@ -41,7 +41,7 @@ fn size_at(n: &[u8], place: u32) -> u32
 
 // A condition by its number.
 fn condition(net: &Network, i: u8, out: &mut [u8], at: usize) -> usize
-    requires { Narrow net.now.n.now net.now.p.now.conditions net.now.p.now.transitions × (i < conditions_in net.now.n.now) × Room at (condition_in (common_of net.now.n.now) i) }
+    requires { Narrowed net.now × (i < conditions_in net.now.n.now) × Room at (condition_in (common_of net.now.n.now) i) }
     ensures { Writes out.old out.new at (condition_in (common_of net.now.n.now) i) result }
 {
     let text = sheet::condition_at(net.n, net.p.conditions[usize::from(i)]);
@@ -50,7 +50,7 @@ fn condition(net: &Network, i: u8, out: &mut [u8], at: usize) -> usize
 
 // The joined condition of a transition behind the first k.
 fn joined(net: &Network, k: u8, t: Transition, out: &mut [u8], at: usize) -> usize
-    requires { Narrow net.now.n.now net.now.p.now.conditions net.now.p.now.transitions × (k ≤ transitions_in net.now.n.now) × (t.condition < conditions_in net.now.n.now) × Room at (joined_text (common_of net.now.n.now) t (earlier_in net.now.n.now k)) }
+    requires { Narrowed net.now × (k ≤ transitions_in net.now.n.now) × (t.condition < conditions_in net.now.n.now) × Room at (joined_text (common_of net.now.n.now) t (earlier_in net.now.n.now k)) }
     ensures { Writes out.old out.new at (joined_text (common_of net.now.n.now) t (earlier_in net.now.n.now k)) result }
 {
     let mut place = net.p.transitions;
@@ -68,7 +68,7 @@ fn joined(net: &Network, k: u8, t: Transition, out: &mut [u8], at: usize) -> usi
 
 // How many bytes it has: it is written where there is no room.
 fn joined_size(net: &Network, k: u8, t: Transition) -> usize
-    requires { Narrow net.now.n.now net.now.p.now.conditions net.now.p.now.transitions × (k ≤ transitions_in net.now.n.now) × (t.condition < conditions_in net.now.n.now) }
+    requires { Narrowed net.now × (k ≤ transitions_in net.now.n.now) × (t.condition < conditions_in net.now.n.now) }
     ensures { (result ≡ length (joined_text (common_of net.now.n.now) t (earlier_in net.now.n.now k))) × (result < 65536) }
 {
     let mut none = [0u8; 1];
@@ -77,7 +77,7 @@ fn joined_size(net: &Network, k: u8, t: Transition) -> usize
 
 // Whether no joined condition is too long.
 fn all_short(net: &Network) -> bool
-    requires { Narrow net.now.n.now net.now.p.now.conditions net.now.p.now.transitions × (net.now.h.transitions ≡ transitions_in net.now.n.now) }
+    requires { Narrowed net.now × (net.now.h.transitions ≡ transitions_in net.now.n.now) }
     ensures { result ≡ joined_short net.now.n.now }
 {
     let mut ok = true;
@@ -92,7 +92,7 @@ fn all_short(net: &Network) -> bool
 
 // The joined conditions, each with its length.
 fn joined_texts(net: &Network, out: &mut [u8], at: usize) -> usize
-    requires { Narrow net.now.n.now net.now.p.now.conditions net.now.p.now.transitions × (net.now.h.transitions ≡ transitions_in net.now.n.now) × Room at (written (text_bytes true) (joined_conditions (network_of net.now.n.now))) }
+    requires { Narrowed net.now × (net.now.h.transitions ≡ transitions_in net.now.n.now) × Room at (written (text_bytes true) (joined_conditions (network_of net.now.n.now))) }
     ensures { Writes out.old out.new at (written (text_bytes true) (joined_conditions (network_of net.now.n.now))) result }
 {
     let mut place = net.p.transitions;
@@ -141,7 +141,7 @@ fn guarded_all(n: &[u8], from: u32, count: u8, number: u8, out: &mut [u8], at: u
 
 // The tables, behind the header.
 fn tables(net: &Network, out: &mut [u8], at: usize) -> usize
-    requires { PreparedNetwork net.now.n.now net.now.h net.now.p.now.conditions net.now.p.now.transitions net.now.p.now.last × (at ≡ 14) }
+    requires { Prepared net.now × (at ≡ 14) }
     ensures { Writes out.old out.new at (table_bytes true (separated (network_of net.now.n.now))) result }
 {
     let n = net.n;
@@ -171,7 +171,7 @@ fn tables(net: &Network, out: &mut [u8], at: usize) -> usize
 
 // How long the network is: it is written where there is no room.
 fn measure(net: &Network) -> usize
-    requires { PreparedNetwork net.now.n.now net.now.h net.now.p.now.conditions net.now.p.now.transitions net.now.p.now.last }
+    requires { Prepared net.now }
     ensures { (result ≡ length (separated_bytes net.now.n.now)) × (result < 1000000) }
 {
     let mut none = [0u8; 1];
@@ -180,7 +180,7 @@ fn measure(net: &Network) -> usize
 
 // Writes the network at the front of a buffer that holds it.
 fn fill(net: &Network, size: u16, out: &mut [u8])
-    requires { PreparedNetwork net.now.n.now net.now.h net.now.p.now.conditions net.now.p.now.transitions net.now.p.now.last × (size ≡ length (separated_bytes net.now.n.now)) × (length (separated_bytes net.now.n.now) ≤ length out.old) }
+    requires { Prepared net.now × (size ≡ length (separated_bytes net.now.n.now)) × (length (separated_bytes net.now.n.now) ≤ length out.old) }
     ensures { out.new ≡ separated_bytes net.now.n.now ++ drop (length (separated_bytes net.now.n.now)) out.old }
 {
     let head = Header {
