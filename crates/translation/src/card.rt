@@ -170,6 +170,8 @@ fn tables(net: &Network, out: &mut [u8], at: usize) -> usize
 }
 
 // How long the network is: it is written where there is no room.
+// Beside write::measure and write::fill: one for both would have to be handed the tables' writer, and
+// be no plainer.
 fn measure(net: &Network) -> usize
     requires { Prepared net.now }
     ensures { (result ≡ length (separated_bytes net.now.n.now)) × (result < 1000000) }
@@ -202,7 +204,7 @@ fn separate(n: &[u8], out: &mut [u8]) -> Result<usize, Refusal>
         h: sheet::header_of(n),
         p: &p,
     };
-    if all_short(&net) {} else {
+    if !all_short(&net) {
         return Err(Refusal::TooLong);
     }
     let size = measure(&net);

@@ -37,6 +37,7 @@ pub struct Both {
 }
 
 // Bytes one behind the other: each is stored where there is room for it.
+// Byte by byte: a slice is copied only whole. By `get_mut` the proof did not close.
 pub(crate) fn put(out: &mut [u8], at: usize, bytes: &[u8]) -> usize
     requires { Room at bytes.now }
     ensures { Writes out.old out.new at bytes.now result }
