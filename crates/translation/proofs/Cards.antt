@@ -5,5 +5,4 @@ pub mod Joining
 pub mod Listing
 pub mod CardTabling
 pub mod CardFilling
-pub mod Widening
 pub mod Guarding

@@ -4,7 +4,7 @@ use mathlib.Core.Path.{◌≡◌, refl, sym, ap, ap₂, subst, ◌∙◌}
 use mathlib.Core.List.{List, [], ◌∷◌, ◌++◌, map, append_assoc}
 use Prim.Native.Nat.{ℕ, zero, suc, ◌+◌, ◌≤◌}
 use native.Mathlib.Omega.{arith}
-use lib.ListN.{length, drop, length-append, length-map, length-drop}
+use lib.ListN.{length, drop, length-append, length-map}
 use Rattle.sheet.specs.declared.Header.{Header}
 use Rattle.sheet.specs.declared.Pair.{Pair}
 use Rattle.sheet.specs.Bytes.{byte, half}
@@ -19,7 +19,6 @@ use Rattle.sheet.proofs.Limits.{sheet_narrow}
 use Rattle.sheet.proofs.Tables.{length_records}
 use Rattle.translation.specs.Translate.{pairs_of, copied, back, joined, added, extended, template_of, translate}
 use Rattle.translation.proofs.Writing.{written_append}
-use Rattle.translation.proofs.Cards.Records.{texts_written}
 use Rattle.translation.specs.Walk.{texts_at, back_with, added_at, copied_bytes, templates_at, frame_of, tables_at, header_at}
 
 -- The transitions that are added, by the numbers of the added condition and action.
@@ -60,9 +59,6 @@ network_header h n =
     }
 
 module _ {s : List ℕ} (a : Accepted sheet_layout s) where
-  texts_there : (n at : ℕ) → at + extent (text_form false) n (drop at s) ≤ length s → written (text_bytes false) (table (text_form false) n s at) ≡ texts_at s at n
-  texts_there n at h = texts_written n (drop at s) (omega (arith, length-drop at s))
-
   pub narrow : wide s ≡ false
   narrow = sheet_narrow s a.version
 
@@ -84,18 +80,18 @@ module _ {s : List ℕ} (a : Accepted sheet_layout s) where
       let S = sheet_of s in
       let w = written word_bytes (table word_form (byte s 6) s 14) in
       let ts = map (copied S) (table transition_form (transitions_in s) s (transitions_at s)) in
-      let b = texts_at s (conditions_at s) (conditions_in s) in
-      let c = texts_at s (actions_at s) (actions_in s) in
+      let b = texts_at false s (conditions_at s) (conditions_in s) in
+      let c = texts_at false s (actions_at s) (actions_in s) in
       let d = copied_bytes s (frame_of s) (transitions_at s) (transitions_in s) in
       let e = written paired_bytes (added_at s (frame_of s) (byte s 3) (byte s 4)) in
       let f = templates_at s (frame_of s) in
       let conditions : written (text_bytes false) (table (text_form (wide s)) (conditions_in s) s (conditions_at s) ++ (0 ∷ []) ∷ []) ≡ b ++ 1 ∷ 0 ∷ [] =
-      ap (λ (v : Bool). written (text_bytes false) (table (text_form v) (conditions_in s) s (conditions_at s) ++ (0 ∷ []) ∷ [])) narrow ∙ written_append (text_bytes false) (table (text_form false) (conditions_in s) s (conditions_at s)) ((0 ∷ []) ∷ []) ∙ ap (λ (l : List ℕ). l ++ 1 ∷ 0 ∷ []) (texts_there (conditions_in s) (conditions_at s) conditions_within) in
+      ap (λ (v : Bool). written (text_bytes false) (table (text_form v) (conditions_in s) s (conditions_at s) ++ (0 ∷ []) ∷ [])) narrow ∙ written_append (text_bytes false) (table (text_form false) (conditions_in s) s (conditions_at s)) ((0 ∷ []) ∷ []) in
       let actions : written (text_bytes false) (table (text_form false) (actions_in s) s (actions_at s) ++ [] ∷ []) ≡ c ++ 0 ∷ [] =
-      written_append (text_bytes false) (table (text_form false) (actions_in s) s (actions_at s)) ([] ∷ []) ∙ ap (λ (l : List ℕ). l ++ 0 ∷ []) (texts_there (actions_in s) (actions_at s) actions_within) in
+      written_append (text_bytes false) (table (text_form false) (actions_in s) s (actions_at s)) ([] ∷ []) in
       let transitions : written paired_bytes (ts ++ added S) ≡ d ++ e = written_append paired_bytes ts (added S) ∙ ap (λ (l : List Paired). written paired_bytes ts ++ written paired_bytes l) (sym (added_same s)) in
       let row : table_bytes false (translate S) ≡ w ++ ((b ++ 1 ∷ 0 ∷ []) ++ ((c ++ 0 ∷ []) ++ ((d ++ e) ++ f))) = λ i. w ++ (conditions i ++ (actions i ++ (transitions i ++ f))) in
-      ap (λ (x : ℕ). w ++ (b ++ 1 ∷ 0 ∷ (texts_at s x (actions_in s) ++ 0 ∷ (d ++ (e ++ f))))) (sym at_narrow) ∙ sym (row ∙ in_a_row w b c d e f)
+      ap (λ (x : ℕ). w ++ (b ++ 1 ∷ 0 ∷ (texts_at false s x (actions_in s) ++ 0 ∷ (d ++ (e ++ f))))) (sym at_narrow) ∙ sym (row ∙ in_a_row w b c d e f)
 
   pub header_same : (size : ℕ) → header_at (network_header (header_of s) (transitions_in s + length (added (sheet_of s)))) size 2 ≡ header_bytes false (translate (sheet_of s)) size
   unfolding translate extended sheet_of common_of

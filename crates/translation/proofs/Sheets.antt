@@ -1,5 +1,5 @@
 -- Writing a sheet's network.
-pub mod Copying
+pub mod Texts
 pub mod Counting
 pub mod Filling
 pub mod Tabling

@@ -2,11 +2,14 @@
 use mathlib.Core.Path.{◌≡◌, refl, sym, ap, ◌∙◌}
 use mathlib.Core.Logic.{◌⊎◌, inl, inr}
 use mathlib.Core.List.{List, [], ◌∷◌, ◌++◌, append_assoc}
-use Prim.Native.Nat.{ℕ, suc, ◌+◌, ◌≤◌, ◌<◌}
+use Prim.Native.Nat.{ℕ, suc, ◌+◌, ◌/◌, ◌%◌, ◌≤◌, ◌<◌}
+use native.Mathlib.Numerals.{add-one}
 use native.Mathlib.Omega.{arith}
-use lib.ListN.{length, set, length-append}
-use lib.Seq.{sets, length-sets, set_out}
-use Rattle.sheet.specs.Encode.{written}
+use lib.ListN.{length, get_or, set, drop, length-append}
+use lib.Seq.{drop-cons, sets, length-sets, set_out}
+use Rattle.std.proofs.lemmas.List.{drop_all}
+use Rattle.std.specs.Int.{w16, w32, to_be_bytes}
+use Rattle.sheet.specs.Encode.{half_bytes, word_bytes, written}
 use Rattle.translation.specs.Walk.{Room, Writes}
 
 pub sets_append : (l : List ℕ) (i : ℕ) (x y : List ℕ) → sets l i (x ++ y) ≡ sets (sets l i x) (i + length x) y
@@ -21,6 +24,25 @@ writes_length {o} {p} {at} {l} w = ap length w.all ∙ length-sets o at l
 pub stored_is : (o p : List ℕ) (at b : ℕ) → ((at < length o) × (p ≡ set o at b)) ⊎ ((length o ≤ at) × (p ≡ o)) → Writes o p at (b ∷ []) (at + 1)
 stored_is o p at b (inl (h, e)) = record { all = e; next = refl }
 stored_is o p at b (inr (h, e)) = record { all = e ∙ sym (set_out o at b h); next = refl }
+
+-- Bytes are stored one by one: with those from i on, out becomes what o becomes with all.
+module _ (o : List ℕ) (at : ℕ) (bytes : List ℕ) where
+  pub record Storing (out : List ℕ) (i : ℕ) : Type 0 where
+    pub all : sets out (at + i) (drop i bytes) ≡ sets o at bytes
+
+  pub storing_start : Storing o 0
+  storing_start = record { all = ap (λ (k : ℕ). sets o k bytes) (omega arith) }
+
+  pub storing_end : (out : List ℕ) (i : ℕ) → Storing out i → length bytes ≤ i → Writes o out at bytes (at + length bytes)
+  storing_end out i g h = record { all = rw (drop_all i bytes h) at g.all; next = refl }
+
+  -- one more, where there is room
+  pub storing_next : (out p : List ℕ) (i : ℕ) → Storing out i → i < length bytes
+      → ((at + i < length out) × (p ≡ set out (at + i) (get_or bytes i 0))) ⊎ ((length out ≤ at + i) × (p ≡ out)) → Storing p (i + 1)
+  storing_next out p i g h s = record { all = rw (stored_is out p (at + i) (get_or bytes i 0) s).all (step ∙ rw (drop-cons bytes i 0 h) at g.all) }
+    where
+      step : sets (set out (at + i) (get_or bytes i 0)) (at + (i + 1)) (drop (i + 1) bytes) ≡ sets out (at + i) (get_or bytes i 0 ∷ drop (suc i) bytes)
+      step = rw (add-one i) (ap (λ (k : ℕ). sets (set out (at + i) (get_or bytes i 0)) k (drop (suc i) bytes)) (omega arith))
 
 -- one behind the other
 pub writes_then : {o p q : List ℕ} {at : ℕ} (x y : List ℕ) {m r : ℕ} → Writes o p at x m → Writes p q m y r → Writes o q at (x ++ y) r
@@ -69,3 +91,15 @@ module _ (o : List ℕ) (at : ℕ) (whole : List ℕ) where
     -- the last part is written
     pub writing_last : (l : List ℕ) → Writing o at whole out here l → (p : List ℕ) (r : ℕ) → Writes out p here l r → Writes o p at whole r
     writing_last l g p r w = record { all = rw w.all g.all; next = omega (arith, w.next, g.place) }
+
+-- numbers in two bytes, and in four
+pub half_is : (m : ℕ) → m < 65536 → (l : List ℕ) → l ≡ to_be_bytes w16 m → l ≡ half_bytes m
+half_is m h l e =
+    let high : m / 256 % 256 ≡ m / 256 = omega arith in
+    e ∙ rw high refl
+
+pub word_is : (m : ℕ) → m < 4294967296 → (l : List ℕ) → l ≡ to_be_bytes w32 m → l ≡ word_bytes m
+word_is m h l e =
+    let first : m / 16777216 % 256 ≡ m / 256 / 256 / 256 = omega arith in
+    let second : m / 65536 % 256 ≡ m / 256 / 256 % 256 = omega arith in
+    e ∙ rw (first, second) refl

@@ -3,14 +3,13 @@ use Rattle.std.specs.Prelude.{◌≡◌, Bool, true, false, ◌&&◌, List, map,
 use Rattle.sheet.specs.declared.Header.{Header}
 use Rattle.sheet.specs.declared.Transition.{Transition}
 use Rattle.sheet.specs.Parts.{Paired}
-use Rattle.sheet.specs.Table.{table, every, after}
-use Rattle.sheet.specs.Decode.{wide, text_form, paired_form, transitions_at, last_at, network_of}
-use Rattle.sheet.specs.Encode.{text_bytes, written, encode}
+use Rattle.sheet.specs.Table.{table, every}
+use Rattle.sheet.specs.Decode.{wide, paired_form, transitions_at, last_at, network_of}
+use Rattle.sheet.specs.Encode.{encode}
 use Rattle.sheet.specs.Reading.{unless, reading, network_layout}
 use Rattle.sheet.specs.Answer.{header_of, places_of}
-use Rattle.translation.specs.declared.write.Both.{Both}
+use Rattle.translation.specs.declared.card.Network.{Network}
 use Rattle.translation.specs.Card.{joined_conditions, separated}
-use Rattle.translation.specs.Walk.{Writes}
 
 -- An accepted network of version 2, the index of its conditions, and where its transitions stand.
 pub record Narrow (n index : List ℕ) (transitions : ℕ) : Type 0 where
@@ -25,14 +24,16 @@ pub record PreparedNetwork (n : List ℕ) (h : Header) (index : List ℕ) (trans
   pub header : h ≡ header_of n
   pub templates : last ≡ last_at paired_form n
 
+-- the same of a network as it is handed on
+abbrev pub Narrowed : Network → Type 0
+Narrowed net = Narrow net.n.now net.p.now.conditions net.p.now.transitions
+
+abbrev pub Prepared : Network → Type 0
+Prepared net = PreparedNetwork net.n.now net.h net.p.now.conditions net.p.now.transitions net.p.now.last
+
 -- its first k transitions
 abbrev pub earlier_in : List ℕ → ℕ → List Transition
 earlier_in n k = map (λ (t : Paired). t.base) (table paired_form k n (transitions_at n))
-
--- the bytes of n texts with lengths of two bytes; and of what is read, where it ends
-pub record WritesWide (s o p : List ℕ) (from n at : ℕ) (r : Both) : Type 0 where
-  pub writes : Writes o p at (written (text_bytes true) (table (text_form false) n s from)) r.at
-  pub read : r.from ≡ after (text_form false) n s from
 
 -- the network for the card, from the bytes of the other
 abbrev pub separated_bytes : List ℕ → List ℕ

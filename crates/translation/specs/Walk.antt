@@ -1,16 +1,16 @@
 -- What the private functions promise: what they write from a place on, and the place behind it.
-use Rattle.std.specs.Prelude.{◌≡◌, false, cond, List, [], ◌∷◌, ◌++◌, map, ℕ, ◌+◌, ◌≤◌, eqb, length, take, drop}
+use Rattle.std.specs.Prelude.{◌≡◌, Bool, false, cond, List, [], ◌∷◌, ◌++◌, map, ℕ, ◌+◌, ◌≤◌, eqb, length}
 use Rattle.std.proofs.lemmas.List.Edits.{sets}
 use Rattle.sheet.specs.declared.Header.{Header}
 use Rattle.sheet.specs.declared.Transition.{Transition}
 use Rattle.sheet.specs.declared.Triple.{Triple}
 use Rattle.sheet.specs.declared.Pair.{Pair}
 use Rattle.sheet.specs.Parts.{Paired}
-use Rattle.sheet.specs.Table.{extent, table, after}
+use Rattle.sheet.specs.Table.{table, after}
 use Rattle.sheet.specs.Decode.{word_form, text_form, transition_form, triple_form, conditions_in, actions_in, last_in, transitions_at, last_at, sheet_of}
 use Rattle.sheet.specs.Reading.{reading, sheet_layout}
 use Rattle.sheet.specs.Answer.{header_of}
-use Rattle.sheet.specs.Encode.{half_bytes, word_bytes, pair_bytes, paired_bytes, template_bytes, written}
+use Rattle.sheet.specs.Encode.{half_bytes, word_bytes, text_bytes, pair_bytes, paired_bytes, template_bytes, written}
 use Rattle.translation.specs.declared.write.Frame.{Frame}
 use Rattle.translation.specs.declared.write.Spot.{Spot}
 use Rattle.translation.specs.declared.write.Both.{Both}
@@ -31,12 +31,12 @@ pub record WritesAdded (o p : List ℕ) (b : Spot) (l : List Paired) (r : Spot) 
   pub writes : Writes o p b.at (written paired_bytes l) r.at
   pub more : r.added ≡ b.added + length l
 
--- the bytes of n texts of a sheet from a place on; and of what is read, where it ends
-abbrev pub texts_at : List ℕ → ℕ → ℕ → List ℕ
-texts_at s from n = take (extent (text_form false) n (drop from s)) (drop from s)
+-- the bytes of n texts from a place on, with lengths in one byte or in two; and of what is read, where it ends
+abbrev pub texts_at : Bool → List ℕ → ℕ → ℕ → List ℕ
+texts_at w s from n = written (text_bytes w) (table (text_form false) n s from)
 
-pub record WritesTexts (s o p : List ℕ) (from n at : ℕ) (r : Both) : Type 0 where
-  pub writes : Writes o p at (texts_at s from n) r.at
+pub record WritesTexts (w : Bool) (s o p : List ℕ) (from n at : ℕ) (r : Both) : Type 0 where
+  pub writes : Writes o p at (texts_at w s from n) r.at
   pub read : r.from ≡ after (text_form false) n s from
 
 -- the triples of a sheet's bytes
@@ -88,8 +88,8 @@ tables_at s h f transitions =
     let conditions = after word_form h.monitors s 14 in
     let actions = after (text_form false) h.conditions s conditions in
     written word_bytes (table word_form h.monitors s 14)
-    ++ (texts_at s conditions h.conditions
-    ++ 1 ∷ 0 ∷ (texts_at s actions h.actions
+    ++ (texts_at false s conditions h.conditions
+    ++ 1 ∷ 0 ∷ (texts_at false s actions h.actions
     ++ 0 ∷ (copied_bytes s f transitions h.transitions
     ++ (written paired_bytes (added_at s f h.states h.units)
     ++ templates_at s f))))

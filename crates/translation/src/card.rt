@@ -9,12 +9,20 @@ ghost use Rattle.sheet.specs.Reading.{reading, sheet_layout, network_layout, con
 ghost use Rattle.translation.specs.Card.{is_of, joined_text, joined_conditions, guarded_by, guarded_from, separated};
 ghost use Rattle.translation.specs.Answer.{translated_paper, translated_with, buffer_with, card_of, card_buffer_of};
 ghost use Rattle.translation.specs.Walk.{Room, Writes};
-ghost use Rattle.translation.specs.CardWalk.{Narrow, PreparedNetwork, earlier_in, WritesWide, separated_bytes, joined_short, separate_refusal};
+ghost use Rattle.translation.specs.CardWalk.{Narrowed, Prepared, earlier_in, separated_bytes, joined_short, separate_refusal};
 
 use crate::write;
-use crate::write::{Both, base, copy, far, header, near, put_half, put_two, texts, wide, words};
+use crate::write::{base, header, put, texts, words};
 use refusal::Refusal;
-use sheet::{Header, Transition};
+use sheet::{Header, Places, Transition};
+
+// A network of version 2, with its header and where its parts stand.
+#[derive(Clone, Copy)]
+pub struct Network<'a> {
+    pub n: &'a [u8],
+    pub h: Header,
+    pub p: &'a Places,
+}
 
 // Whether a transition is of another's state, kind and unit.
 fn same(t: Transition, u: Transition) -> bool
@@ -28,117 +36,75 @@ fn size_at(n: &[u8], place: u32) -> u32
     requires { place ≤ 100000 }
     ensures { (result ≡ paired_form.size (drop place n.now)) × (result < 600) }
 {
-    7 + 2 * wide(sheet::byte_at(n, place + 6))
+    7 + 2 * u32::from(sheet::byte_at(n, place + 6))
 }
 
 // A condition by its number.
-fn condition(n: &[u8], index: &[u32; 161], from: u32, i: u8, out: &mut [u8], at: usize) -> usize
-    requires { Narrow n.now index.now from × (i < conditions_in n.now) × Room at (condition_in (common_of n.now) i) }
-    ensures { Writes out.old out.new at (condition_in (common_of n.now) i) result }
+fn condition(net: &Network, i: u8, out: &mut [u8], at: usize) -> usize
+    requires { Narrowed net.now × (i < conditions_in net.now.n.now) × Room at (condition_in (common_of net.now.n.now) i) }
+    ensures { Writes out.old out.new at (condition_in (common_of net.now.n.now) i) result }
 {
-    let text = sheet::condition_at(n, index[near(i)]);
-    copy(text, 0, text.len(), out, at)
+    let text = sheet::condition_at(net.n, net.p.conditions[usize::from(i)]);
+    put(out, at, text)
 }
 
 // The joined condition of a transition behind the first k.
-fn joined(
-    n: &[u8],
-    index: &[u32; 161],
-    from: u32,
-    k: u8,
-    t: Transition,
-    out: &mut [u8],
-    at: usize,
-) -> usize
-    requires { Narrow n.now index.now from × (k ≤ transitions_in n.now) × (t.condition < conditions_in n.now) × Room at (joined_text (common_of n.now) t (earlier_in n.now k)) }
-    ensures { Writes out.old out.new at (joined_text (common_of n.now) t (earlier_in n.now k)) result }
+fn joined(net: &Network, k: u8, t: Transition, out: &mut [u8], at: usize) -> usize
+    requires { Narrowed net.now × (k ≤ transitions_in net.now.n.now) × (t.condition < conditions_in net.now.n.now) × Room at (joined_text (common_of net.now.n.now) t (earlier_in net.now.n.now k)) }
+    ensures { Writes out.old out.new at (joined_text (common_of net.now.n.now) t (earlier_in net.now.n.now k)) result }
 {
-    let mut left = k;
-    let mut place = from;
+    let mut place = net.p.transitions;
     let mut here = at;
-    while 0 < left {
-        let u = sheet::transition_at(n, place);
+    for _ in 0..k {
+        let u = sheet::transition_at(net.n, place);
         if same(t, u) {
-            let next = put_two(out, here, 2, 1);
-            here = condition(n, index, from, u.condition, out, next);
+            let next = put(out, here, &[2, 1]);
+            here = condition(net, u.condition, out, next);
         }
-        place += size_at(n, place);
-        left -= 1;
+        place += size_at(net.n, place);
     }
-    condition(n, index, from, t.condition, out, here)
+    condition(net, t.condition, out, here)
 }
 
 // How many bytes it has: it is written where there is no room.
-fn joined_size(n: &[u8], index: &[u32; 161], from: u32, k: u8, t: Transition) -> usize
-    requires { Narrow n.now index.now from × (k ≤ transitions_in n.now) × (t.condition < conditions_in n.now) }
-    ensures { (result ≡ length (joined_text (common_of n.now) t (earlier_in n.now k))) × (result < 65536) }
+fn joined_size(net: &Network, k: u8, t: Transition) -> usize
+    requires { Narrowed net.now × (k ≤ transitions_in net.now.n.now) × (t.condition < conditions_in net.now.n.now) }
+    ensures { (result ≡ length (joined_text (common_of net.now.n.now) t (earlier_in net.now.n.now k))) × (result < 65536) }
 {
     let mut none = [0u8; 1];
-    joined(n, index, from, k, t, &mut none, 0)
+    joined(net, k, t, &mut none, 0)
 }
 
 // Whether no joined condition is too long.
-fn all_short(n: &[u8], index: &[u32; 161], from: u32, count: u8) -> bool
-    requires { Narrow n.now index.now from × (count ≡ transitions_in n.now) }
-    ensures { result ≡ joined_short n.now }
+fn all_short(net: &Network) -> bool
+    requires { Narrowed net.now × (net.now.h.transitions ≡ transitions_in net.now.n.now) }
+    ensures { result ≡ joined_short net.now.n.now }
 {
     let mut ok = true;
-    let mut k: u8 = 0;
-    let mut place = from;
-    while k < count {
-        let t = sheet::transition_at(n, place);
-        ok = ok & (joined_size(n, index, from, k, t) <= 1024);
-        place += size_at(n, place);
-        k += 1;
+    let mut place = net.p.transitions;
+    for k in 0..net.h.transitions {
+        let t = sheet::transition_at(net.n, place);
+        ok = ok & (joined_size(net, k, t) <= 1024);
+        place += size_at(net.n, place);
     }
     ok
 }
 
 // The joined conditions, each with its length.
-fn joined_texts(
-    n: &[u8],
-    index: &[u32; 161],
-    from: u32,
-    count: u8,
-    out: &mut [u8],
-    at: usize,
-) -> usize
-    requires { Narrow n.now index.now from × (count ≡ transitions_in n.now) × Room at (written (text_bytes true) (joined_conditions (network_of n.now))) }
-    ensures { Writes out.old out.new at (written (text_bytes true) (joined_conditions (network_of n.now))) result }
+fn joined_texts(net: &Network, out: &mut [u8], at: usize) -> usize
+    requires { Narrowed net.now × (net.now.h.transitions ≡ transitions_in net.now.n.now) × Room at (written (text_bytes true) (joined_conditions (network_of net.now.n.now))) }
+    ensures { Writes out.old out.new at (written (text_bytes true) (joined_conditions (network_of net.now.n.now))) result }
 {
-    let mut k: u8 = 0;
-    let mut place = from;
+    let mut place = net.p.transitions;
     let mut here = at;
-    while k < count {
-        let t = sheet::transition_at(n, place);
-        let size = joined_size(n, index, from, k, t);
-        let next = put_half(out, here, size as u16);
-        here = joined(n, index, from, k, t, out, next);
-        place += size_at(n, place);
-        k += 1;
+    for k in 0..net.h.transitions {
+        let t = sheet::transition_at(net.n, place);
+        let size = joined_size(net, k, t);
+        let next = put(out, here, &(size as u16).to_be_bytes());
+        here = joined(net, k, t, out, next);
+        place += size_at(net.n, place);
     }
     here
-}
-
-// The old conditions, from a place on, each with its length in two bytes.
-fn wide_texts(n: &[u8], from: u32, count: u8, out: &mut [u8], at: usize) -> Both
-    requires { (after (text_form false) count n.now from ≤ length n.now) × (length n.now ≤ 65535) × Room at (written (text_bytes true) (table (text_form false) count n.now from)) }
-    ensures { WritesWide n.now out.old out.new from count at result }
-{
-    let mut left = count;
-    let mut place = from;
-    let mut here = at;
-    while 0 < left {
-        let size = wide(sheet::byte_at(n, place));
-        let next = put_half(out, here, size as u16);
-        here = copy(n, far(place) + 1, far(size), out, next);
-        place += 1 + size;
-        left -= 1;
-    }
-    Both {
-        from: place,
-        at: here,
-    }
 }
 
 // A transition, with the number of its new condition and the pairs that it had.
@@ -155,7 +121,8 @@ fn guarded(n: &[u8], place: u32, number: u8, out: &mut [u8], at: usize) -> usize
             ..t
         },
     );
-    copy(n, far(place) + 6, far(size_at(n, place)) - 6, out, next)
+    let end = place + size_at(n, place);
+    put(out, next, &n[place as usize + 6..end as usize])
 }
 
 // All of them; the first has this number.
@@ -163,58 +130,67 @@ fn guarded_all(n: &[u8], from: u32, count: u8, number: u8, out: &mut [u8], at: u
     requires { (after paired_form count n.now from ≤ length n.now) × (length n.now ≤ 65535) × (number + count < 256) × Room at (written paired_bytes (guarded_from number (table paired_form count n.now from))) }
     ensures { Writes out.old out.new at (written paired_bytes (guarded_from number (table paired_form count n.now from))) result }
 {
-    let mut k: u8 = 0;
     let mut place = from;
     let mut here = at;
-    while k < count {
+    for k in 0..count {
         here = guarded(n, place, number + k, out, here);
         place += size_at(n, place);
-        k += 1;
     }
     here
 }
 
 // The tables, behind the header.
-fn tables(
-    n: &[u8],
-    h: Header,
-    index: &[u32; 161],
-    from: u32,
-    last: u32,
-    out: &mut [u8],
-    at: usize,
-) -> usize
-    requires { PreparedNetwork n.now h index.now from last × (at ≡ 14) }
-    ensures { Writes out.old out.new at (table_bytes true (separated (network_of n.now))) result }
+fn tables(net: &Network, out: &mut [u8], at: usize) -> usize
+    requires { Prepared net.now × (at ≡ 14) }
+    ensures { Writes out.old out.new at (table_bytes true (separated (network_of net.now.n.now))) result }
 {
+    let n = net.n;
+    let h = net.h;
     let first = words(n, 14, h.monitors, out, at);
-    let old = wide_texts(n, 14 + 4 * wide(h.monitors), h.conditions, out, first);
-    let second = joined_texts(n, index, from, h.transitions, out, old.at);
-    let actions = texts(n, old.from, h.actions, out, second);
-    let third = guarded_all(n, from, h.transitions, h.conditions, out, actions.at);
-    copy(n, far(last), 2 * near(h.last), out, third)
+    let old = texts(
+        n,
+        14 + 4 * u32::from(h.monitors),
+        h.conditions,
+        true,
+        out,
+        first,
+    );
+    let second = joined_texts(net, out, old.at);
+    let actions = texts(n, old.from, h.actions, false, out, second);
+    let third = guarded_all(
+        n,
+        net.p.transitions,
+        h.transitions,
+        h.conditions,
+        out,
+        actions.at,
+    );
+    let start = net.p.last as usize;
+    put(out, third, &n[start..start + 2 * usize::from(h.last)])
 }
 
 // How long the network is: it is written where there is no room.
-fn measure(n: &[u8], h: Header, index: &[u32; 161], from: u32, last: u32) -> usize
-    requires { PreparedNetwork n.now h index.now from last }
-    ensures { (result ≡ length (separated_bytes n.now)) × (result < 1000000) }
+// Beside write::measure and write::fill: one for both would have to be handed the tables' writer, and
+// be no plainer.
+fn measure(net: &Network) -> usize
+    requires { Prepared net.now }
+    ensures { (result ≡ length (separated_bytes net.now.n.now)) × (result < 1000000) }
 {
     let mut none = [0u8; 1];
-    tables(n, h, index, from, last, &mut none, 14)
+    tables(net, &mut none, 14)
 }
 
 // Writes the network at the front of a buffer that holds it.
-fn fill(n: &[u8], h: Header, index: &[u32; 161], from: u32, last: u32, size: u16, out: &mut [u8])
-    requires { PreparedNetwork n.now h index.now from last × (size ≡ length (separated_bytes n.now)) × (length (separated_bytes n.now) ≤ length out.old) }
-    ensures { out.new ≡ separated_bytes n.now ++ drop (length (separated_bytes n.now)) out.old }
+fn fill(net: &Network, size: u16, out: &mut [u8])
+    requires { Prepared net.now × (size ≡ length (separated_bytes net.now.n.now)) × (length (separated_bytes net.now.n.now) ≤ length out.old) }
+    ensures { out.new ≡ separated_bytes net.now.n.now ++ drop (length (separated_bytes net.now.n.now)) out.old }
 {
-    let net = Header {
-        conditions: h.conditions + h.transitions,
-        ..h
+    let head = Header {
+        conditions: net.h.conditions + net.h.transitions,
+        ..net.h
     };
-    let at = header(out, net, size, 3);
-    tables(n, h, index, from, last, out, at);
+    let at = header(out, head, size, 3);
+    tables(net, out, at);
 }
 
 // Writes the network for the card from an accepted network of version 2.
@@ -222,20 +198,23 @@ fn separate(n: &[u8], out: &mut [u8]) -> Result<usize, Refusal>
     requires { (reading network_layout n.now ≡ 0) × (Rattle.sheet.specs.Decode.wide n.now ≡ false) }
     ensures { (translated_paper result ≡ translated_with (separate_refusal n.now out.old) (length (separated_bytes n.now))) × (out.new ≡ buffer_with (separate_refusal n.now out.old) (separated_bytes n.now) out.old) }
 {
-    let h = sheet::header_of(n);
     let p = sheet::network_places(n);
-    let index = p.conditions;
-    if all_short(n, &index, p.transitions, h.transitions) {} else {
+    let net = Network {
+        n,
+        h: sheet::header_of(n),
+        p: &p,
+    };
+    if !all_short(&net) {
         return Err(Refusal::TooLong);
     }
-    let size = measure(n, h, &index, p.transitions, p.last);
+    let size = measure(&net);
     if 65535 < size {
         return Err(Refusal::TooLong);
     }
     if out.len() < size {
         return Err(Refusal::ShortBuffer);
     }
-    fill(n, h, &index, p.transitions, p.last, size as u16, out);
+    fill(&net, size as u16, out);
     Ok(size)
 }
 

@@ -3,7 +3,7 @@
 ghost use Rattle.std.specs.Prelude.{false, ◌≡◌, [], ◌∷◌, ◌++◌, map, ◌+◌, ◌≤◌, ◌<◌, length, set, take, drop};
 ghost use Rattle.sheet.specs.Table.{table, after};
 ghost use Rattle.sheet.specs.Decode.{word_form, text_form, transition_of};
-ghost use Rattle.sheet.specs.Encode.{half_bytes, word_bytes, pair_bytes, paired_bytes, written};
+ghost use Rattle.sheet.specs.Encode.{length_bytes, word_bytes, pair_bytes, paired_bytes, written};
 ghost use Rattle.translation.specs.Translate.{pairs_from, joined};
 ghost use Rattle.sheet.specs.Reading.{reading, sheet_layout};
 ghost use Rattle.translation.specs.Answer.{network_bytes, translated_paper, translated_of, buffer_of};
@@ -36,46 +36,18 @@ pub struct Both {
     pub at: usize,
 }
 
-// One byte.
-fn put(out: &mut [u8], at: usize, b: u8) -> usize
-    requires { Room at (b ∷ []) }
-    ensures { Writes out.old out.new at (b ∷ []) result }
+// Bytes one behind the other: each is stored where there is room for it.
+// Byte by byte: a slice is copied only whole. By `get_mut` the proof did not close.
+pub(crate) fn put(out: &mut [u8], at: usize, bytes: &[u8]) -> usize
+    requires { Room at bytes.now }
+    ensures { Writes out.old out.new at bytes.now result }
 {
-    if at < out.len() {
-        out[at] = b;
+    for (i, b) in bytes.iter().enumerate() {
+        if at + i < out.len() {
+            out[at + i] = *b;
+        }
     }
-    at + 1
-}
-
-// Two bytes.
-pub(crate) fn put_two(out: &mut [u8], at: usize, a: u8, b: u8) -> usize
-    requires { Room at (a ∷ b ∷ []) }
-    ensures { Writes out.old out.new at (a ∷ b ∷ []) result }
-{
-    let next = put(out, at, a);
-    put(out, next, b)
-}
-
-// A number in two bytes.
-pub(crate) fn put_half(out: &mut [u8], at: usize, m: u16) -> usize
-    requires { Room at (half_bytes m) }
-    ensures { Writes out.old out.new at (half_bytes m) result }
-{
-    put_two(out, at, (m / 256) as u8, (m % 256) as u8)
-}
-
-// A word.
-fn put_word(out: &mut [u8], at: usize, m: u32) -> usize
-    requires { Room at (word_bytes m) }
-    ensures { Writes out.old out.new at (word_bytes m) result }
-{
-    let next = put_two(
-        out,
-        at,
-        (m / 256 / 256 / 256) as u8,
-        (m / 256 / 256 % 256) as u8,
-    );
-    put_two(out, next, (m / 256 % 256) as u8, (m % 256) as u8)
+    at + bytes.len()
 }
 
 // Words of a sheet, from a place on.
@@ -83,44 +55,39 @@ pub(crate) fn words(s: &[u8], from: u32, n: u8, out: &mut [u8], at: usize) -> us
     requires { (from ≤ 100000) × Room at (written word_bytes (table word_form n s.now from)) }
     ensures { Writes out.old out.new at (written word_bytes (table word_form n s.now from)) result }
 {
-    let mut left = n;
     let mut place = from;
     let mut here = at;
-    while 0 < left {
-        here = put_word(out, here, sheet::word_at(s, place));
+    for _ in 0..n {
+        here = put(out, here, &sheet::word_at(s, place).to_be_bytes());
         place += 4;
-        left -= 1;
     }
     here
 }
 
-// Bytes of a sheet, from a place on.
-pub(crate) fn copy(s: &[u8], from: usize, n: usize, out: &mut [u8], at: usize) -> usize
-    requires { (from + n ≤ length s.now) × (from + n ≤ 1000000) × Room at (take n (drop from s.now)) }
-    ensures { Writes out.old out.new at (take n (drop from s.now)) result }
+// A length, in one byte or in two.
+fn put_length(out: &mut [u8], at: usize, wide: bool, size: u8) -> usize
+    requires { Room at (length_bytes wide size) }
+    ensures { Writes out.old out.new at (length_bytes wide size) result }
 {
-    let mut i = from;
-    let mut here = at;
-    while i < from + n {
-        here = put(out, here, s[i]);
-        i += 1;
+    if wide {
+        put(out, at, &u16::from(size).to_be_bytes())
+    } else {
+        put(out, at, &[size])
     }
-    here
 }
 
-// Texts of a sheet, from a place on, with their length bytes.
-pub(crate) fn texts(s: &[u8], from: u32, n: u8, out: &mut [u8], at: usize) -> Both
-    requires { (after (text_form false) n s.now from ≤ length s.now) × (length s.now ≤ 65535) × Room at (texts_at s.now from n) }
-    ensures { WritesTexts s.now out.old out.new from n at result }
+// Texts from a place on, where each has a length byte, with lengths in one byte or in two.
+pub(crate) fn texts(s: &[u8], from: u32, n: u8, wide: bool, out: &mut [u8], at: usize) -> Both
+    requires { (after (text_form false) n s.now from ≤ length s.now) × (length s.now ≤ 65535) × Room at (texts_at wide s.now from n) }
+    ensures { WritesTexts wide s.now out.old out.new from n at result }
 {
-    let mut left = n;
     let mut place = from;
     let mut here = at;
-    while 0 < left {
-        let size = 1 + wide(sheet::byte_at(s, place));
-        here = copy(s, far(place), far(size), out, here);
-        place += size;
-        left -= 1;
+    for _ in 0..n {
+        let size = sheet::byte_at(s, place);
+        let next = put_length(out, here, wide, size);
+        here = put(out, next, sheet::action_at(s, place));
+        place += 1 + u32::from(size);
     }
     Both {
         from: place,
@@ -134,15 +101,13 @@ fn count(s: &[u8], f: Frame, state: u8, unit: u8) -> u8
     ensures { result ≡ length (pairs_from 0 state unit (triples_at s.now f)) }
 {
     let mut found = 0;
-    let mut i: u8 = 0;
     let mut place = f.triples;
-    while i < f.count {
+    for _ in 0..f.count {
         let t = sheet::triple_at(s, place);
         if (t.state == state) & (t.unit == unit) {
             found += 1;
         }
         place += 4;
-        i += 1;
     }
     found
 }
@@ -152,16 +117,14 @@ fn pairs(s: &[u8], f: Frame, state: u8, unit: u8, out: &mut [u8], at: usize) -> 
     requires { (f.triples ≤ 100000) × Room at (written pair_bytes (pairs_from 0 state unit (triples_at s.now f))) }
     ensures { Writes out.old out.new at (written pair_bytes (pairs_from 0 state unit (triples_at s.now f))) result }
 {
-    let mut i: u8 = 0;
     let mut place = f.triples;
     let mut here = at;
-    while i < f.count {
+    for i in 0..f.count {
         let t = sheet::triple_at(s, place);
         if (t.state == state) & (t.unit == unit) {
-            here = put_two(out, here, t.precondition, i);
+            here = put(out, here, &[t.precondition, i]);
         }
         place += 4;
-        i += 1;
     }
     here
 }
@@ -171,7 +134,7 @@ fn with_pairs(s: &[u8], f: Frame, state: u8, unit: u8, out: &mut [u8], at: usize
     requires { (f.triples ≤ 100000) × Room at (counted_pairs (pairs_from 0 state unit (triples_at s.now f))) }
     ensures { Writes out.old out.new at (counted_pairs (pairs_from 0 state unit (triples_at s.now f))) result }
 {
-    let next = put(out, at, count(s, f, state, unit));
+    let next = put(out, at, &[count(s, f, state, unit)]);
     pairs(s, f, state, unit, out, next)
 }
 
@@ -180,9 +143,11 @@ pub(crate) fn base(out: &mut [u8], at: usize, t: Transition) -> usize
     requires { Room at (base_bytes t) }
     ensures { Writes out.old out.new at (base_bytes t) result }
 {
-    let second = put_two(out, at, t.from, t.kind);
-    let third = put_two(out, second, t.unit, t.condition);
-    put_two(out, third, t.action, t.to)
+    put(
+        out,
+        at,
+        &[t.from, t.kind, t.unit, t.condition, t.action, t.to],
+    )
 }
 
 // A transition of the sheet, an entry one with its pairs.
@@ -195,7 +160,7 @@ fn transition(s: &[u8], f: Frame, place: u32, out: &mut [u8], at: usize) -> usiz
     if t.kind == 0 {
         with_pairs(s, f, t.from, t.unit, out, next)
     } else {
-        put(out, next, 0)
+        put(out, next, &[0])
     }
 }
 
@@ -204,13 +169,11 @@ fn transitions(s: &[u8], f: Frame, from: u32, n: u8, out: &mut [u8], at: usize) 
     requires { (f.triples ≤ 100000) × (from ≤ 100000) × Room at (copied_bytes s.now f from n) }
     ensures { Writes out.old out.new at (copied_bytes s.now f from n) result }
 {
-    let mut left = n;
     let mut place = from;
     let mut here = at;
-    while 0 < left {
+    for _ in 0..n {
         here = transition(s, f, place, out, here);
         place += 6;
-        left -= 1;
     }
     here
 }
@@ -244,10 +207,8 @@ fn units(s: &[u8], f: Frame, state: u8, n: u8, out: &mut [u8], spot: Spot) -> Sp
     ensures { WritesAdded out.old out.new spot (joined n (λ u. back_at s.now f state u)) result }
 {
     let mut here = spot;
-    let mut unit: u8 = 0;
-    while unit < n {
+    for unit in 0..n {
         here = back(s, f, state, unit, out, here);
-        unit += 1;
     }
     here
 }
@@ -258,10 +219,8 @@ fn states(s: &[u8], f: Frame, n: u8, m: u8, out: &mut [u8], spot: Spot) -> Spot
     ensures { WritesAdded out.old out.new spot (added_at s.now f n m) result }
 {
     let mut here = spot;
-    let mut state: u8 = 0;
-    while state < n {
+    for state in 0..n {
         here = units(s, f, state, m, out, here);
-        state += 1;
     }
     here
 }
@@ -271,14 +230,12 @@ fn templates(s: &[u8], f: Frame, out: &mut [u8], at: usize) -> usize
     requires { (f.triples ≤ 100000) × Room at (templates_at s.now f) }
     ensures { Writes out.old out.new at (templates_at s.now f) result }
 {
-    let mut left = f.count;
     let mut place = f.triples;
     let mut here = at;
-    while 0 < left {
+    for _ in 0..f.count {
         let t = sheet::triple_at(s, place);
-        here = put_two(out, here, t.unit, t.postcondition);
+        here = put(out, here, &[t.unit, t.postcondition]);
         place += 4;
-        left -= 1;
     }
     here
 }
@@ -289,10 +246,17 @@ fn tables(s: &[u8], h: Header, f: Frame, from: u32, out: &mut [u8], at: usize) -
     ensures { WritesTables s.now h f from out.old out.new at result }
 {
     let first = words(s, 14, h.monitors, out, at);
-    let conditions = texts(s, 14 + 4 * wide(h.monitors), h.conditions, out, first);
-    let second = put_two(out, conditions.at, 1, 0);
-    let actions = texts(s, conditions.from, h.actions, out, second);
-    let third = put(out, actions.at, 0);
+    let conditions = texts(
+        s,
+        14 + 4 * u32::from(h.monitors),
+        h.conditions,
+        false,
+        out,
+        first,
+    );
+    let second = put(out, conditions.at, &[1, 0]);
+    let actions = texts(s, conditions.from, h.actions, false, out, second);
+    let third = put(out, actions.at, &[0]);
     let fourth = transitions(s, f, from, h.transitions, out, third);
     let spot = Spot {
         at: fourth,
@@ -309,13 +273,18 @@ fn tables(s: &[u8], h: Header, f: Frame, from: u32, out: &mut [u8], at: usize) -
 pub(crate) fn header(out: &mut [u8], h: Header, size: u16, version: u8) -> usize
     ensures { Writes out.old out.new 0 (header_at h size version) result }
 {
-    let second = put_half(out, 0, size);
-    let third = put_two(out, second, version, h.states);
-    let fourth = put_two(out, third, h.units, h.programs);
-    let fifth = put_two(out, fourth, h.monitors, h.start);
-    let sixth = put_half(out, fifth, h.bad);
-    let last = put_two(out, sixth, h.conditions, h.actions);
-    put_two(out, last, h.transitions, h.last)
+    let second = put(out, 0, &size.to_be_bytes());
+    let third = put(
+        out,
+        second,
+        &[version, h.states, h.units, h.programs, h.monitors, h.start],
+    );
+    let fourth = put(out, third, &h.bad.to_be_bytes());
+    put(
+        out,
+        fourth,
+        &[h.conditions, h.actions, h.transitions, h.last],
+    )
 }
 
 // How long the network is, and how many transitions are added: it is written where there is no room.
@@ -332,7 +301,7 @@ fn fill(s: &[u8], h: Header, f: Frame, from: u32, size: Spot, out: &mut [u8])
     requires { Prepared s.now h f from × Measures s.now size × (length (network_bytes s.now) ≤ length out.old) }
     ensures { out.new ≡ network_bytes s.now ++ drop (length (network_bytes s.now)) out.old }
 {
-    let n = near(h.transitions) + size.added;
+    let n = usize::from(h.transitions) + size.added;
     let net = Header {
         conditions: h.conditions + 1,
         actions: h.actions + 1,
@@ -362,22 +331,4 @@ pub(crate) fn translate(s: &[u8], out: &mut [u8]) -> Result<usize, Refusal>
     }
     fill(s, h, f, p.transitions, size, out);
     Ok(size.at)
-}
-
-pub(crate) fn near(x: u8) -> usize
-    ensures { (result ≡ x) × (result < 256) }
-{
-    x as usize
-}
-
-pub(crate) fn wide(x: u8) -> u32
-    ensures { (result ≡ x) × (result < 256) }
-{
-    x as u32
-}
-
-pub(crate) fn far(x: u32) -> usize
-    ensures { (result ≡ x) × (result < 4294967296) }
-{
-    x as usize
 }

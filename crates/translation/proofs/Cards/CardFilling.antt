@@ -10,7 +10,7 @@ use lib.ListN.{length, drop, length-append, length-map}
 use lib.Seq.{sets, sets-eq}
 use Rattle.sheet.specs.declared.Header.{Header}
 use Rattle.sheet.specs.declared.Places.{Places}
-use Rattle.std.specs.Prelude.{Result, Ok, Err}
+use Rattle.std.specs.Prelude.{Result, Err}
 use Rattle.refusal.specs.declared.Refusal.{Refusal}
 use Rattle.refusal.specs.Numbers.{number_of}
 use Rattle.sheet.specs.Bytes.{byte, half}

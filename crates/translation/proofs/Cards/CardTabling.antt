@@ -2,7 +2,7 @@
 use mathlib.Core.Path.{◌≡◌, refl, ap, subst, ◌∙◌}
 use mathlib.Core.Bool.{Bool, true, false}
 use mathlib.Core.List.{List, [], ◌∷◌, ◌++◌, map, append_assoc}
-use Prim.Native.Nat.{ℕ, zero, suc, ◌+◌, ◌*◌, ◌≤◌, ◌<◌}
+use Prim.Native.Nat.{ℕ, zero, suc, ◌+◌, ◌-◌, ◌*◌, ◌≤◌, ◌<◌}
 use native.Mathlib.Nat.{suc-mul}
 use native.Mathlib.Omega.{arith}
 use lib.ListN.{length, get_or, take, drop, length-append, length-drop, length-map}
@@ -19,9 +19,9 @@ use Rattle.sheet.proofs.Accepted.{tables_end}
 use Rattle.translation.specs.declared.write.Both.{Both}
 use Rattle.translation.specs.Card.{joined_from, joined_conditions, guarded_from, with_conditions, separated}
 use Rattle.translation.specs.Walk.{Room, Writes, WritesTexts, texts_at}
-use Rattle.translation.specs.CardWalk.{Narrow, PreparedNetwork, WritesWide}
+use Rattle.translation.specs.CardWalk.{Narrow, PreparedNetwork}
 use Rattle.translation.proofs.Networks.{take_most}
-use Rattle.translation.proofs.Cards.Records.{texts_written, templates_written}
+use Rattle.translation.proofs.Cards.Records.{templates_written}
 use Rattle.translation.proofs.Cards.Reaching.{network, network_short, few_conditions_lem, few_transitions, transitions_end}
 use Rattle.translation.proofs.Cards.Joining.{length_joined, joined_most}
 use Rattle.translation.proofs.Writing.{Writing, writing_start, writing_room, writing_next, writing_last, written_append}
@@ -75,7 +75,7 @@ module _ {n : List ℕ} {h : Header} {index : List ℕ} {from last : ℕ} (p : P
   third = written (text_bytes true) (joined_conditions (network_of n))
 
   abbrev fourth : List ℕ
-  fourth = texts_at n (after (text_form false) h.conditions n (after word_form h.monitors n 14)) h.actions
+  fourth = texts_at false n (after (text_form false) h.conditions n (after word_form h.monitors n 14)) h.actions
 
   abbrev fifth : List ℕ
   fifth = written paired_bytes (guarded_from h.conditions (table paired_form h.transitions n from))
@@ -138,8 +138,8 @@ module _ {n : List ℕ} {h : Header} {index : List ℕ} {from last : ℕ} (p : P
       let last-extent = fixed_extent template_form 2 (λ t. refl) (last_in n) (drop (last_at paired_form n) n) in
       let old : written (text_bytes true) (C.conditions ++ J) ≡ b ++ written (text_bytes true) J =
       written_append (text_bytes true) C.conditions J ∙ ap (λ (v : Bool). written (text_bytes true) (table (text_form v) (conditions_in n) n (conditions_at n)) ++ written (text_bytes true) J) N.narrow in
-      let acts : written (text_bytes false) (table (text_form false) (actions_in n) n (actions_at n)) ≡ texts_at n (after (text_form false) (conditions_in n) n (conditions_at n)) (actions_in n) =
-      texts_written (actions_in n) (drop (actions_at n) n) (rw length-drop (omega (arith, actions_within))) ∙ ap (λ (m : ℕ). texts_at n m (actions_in n)) actions_narrow in
+      let acts : written (text_bytes false) (table (text_form false) (actions_in n) n (actions_at n)) ≡ texts_at false n (after (text_form false) (conditions_in n) n (conditions_at n)) (actions_in n) =
+      ap (λ (m : ℕ). texts_at false n m (actions_in n)) actions_narrow in
       let trans : written paired_bytes (guarded_from (length C.conditions) (table paired_form (transitions_in n) n (transitions_at n))) ≡ written paired_bytes (guarded_from (conditions_in n) (table paired_form (transitions_in n) n (transitions_at n))) =
       ap (λ (m : ℕ). written paired_bytes (guarded_from m (table paired_form (transitions_in n) n (transitions_at n)))) long in
       let double : last_in n * 2 ≡ 2 * last_in n = omega arith in
@@ -171,7 +171,7 @@ module _ {n : List ℕ} {h : Header} {index : List ℕ} {from last : ℕ} (p : P
       let e = length-append fifth sixth in
       let u = written_extent word_bytes word_form 0 (λ s. omega arith) h.monitors (drop 14 n) in
       let v = written_extent (text_bytes true) (text_form false) 1 (λ s. omega (arith, take_most (byte s 0) (drop 1 s))) h.conditions (drop conditions n) in
-      let w = take_most (extent (text_form false) h.actions (drop actions n)) (drop actions n) in
+      let w = written_extent (text_bytes false) (text_form false) 0 (λ s. omega (arith, take_most (byte s 0) (drop 1 s))) h.actions (drop actions n) in
       let x = guarded_extent h.conditions h.transitions (drop from n) in
       let y = take_most (2 * h.last) (drop last n) in
       rw row (omega (arith, third_most, conditions_end, actions_end, guarded_end, last_end, short, counted.1))
@@ -198,10 +198,10 @@ module _ {n : List ℕ} {h : Header} {index : List ℕ} {from last : ℕ} (p : P
         pub room_second : Room here (written (text_bytes true) (table (text_form false) h.conditions n m))
         room_second = rw em (writing_room o at whole out here second from_third g fits)
 
-        pub next_second : (q : List ℕ) (r : Both) → WritesWide n out q m h.conditions here r → Writing o at (table_bytes true (separated (network_of n))) q r.at from_third
+        pub next_second : (q : List ℕ) (r : Both) → WritesTexts true n out q m h.conditions here r → Writing o at (table_bytes true (separated (network_of n))) q r.at from_third
         next_second q r w = writing_next o at whole out here second from_third g q r.at (rw em at w.writes)
 
-        pub read_second : (q : List ℕ) (r : Both) → WritesWide n out q m h.conditions here r → r.from ≡ after (text_form false) h.conditions n (after word_form h.monitors n 14)
+        pub read_second : (q : List ℕ) (r : Both) → WritesTexts true n out q m h.conditions here r → r.from ≡ after (text_form false) h.conditions n (after word_form h.monitors n 14)
         read_second q r w = rw em at w.read
 
       module _ (g : Writing o at (table_bytes true (separated (network_of n))) out here from_third) where
@@ -212,10 +212,10 @@ module _ {n : List ℕ} {h : Header} {index : List ℕ} {from last : ℕ} (p : P
         next_third q r w = writing_next o at whole out here third from_fourth g q r w
 
       module _ (g : Writing o at (table_bytes true (separated (network_of n))) out here from_fourth) (m : ℕ) (em : m ≡ after (text_form false) h.conditions n (after word_form h.monitors n 14)) where
-        pub room_fourth : Room here (texts_at n m h.actions)
+        pub room_fourth : Room here (texts_at false n m h.actions)
         room_fourth = rw em (writing_room o at whole out here fourth from_fifth g fits)
 
-        pub next_fourth : (q : List ℕ) (r : Both) → WritesTexts n out q m h.actions here r → Writing o at (table_bytes true (separated (network_of n))) q r.at from_fifth
+        pub next_fourth : (q : List ℕ) (r : Both) → WritesTexts false n out q m h.actions here r → Writing o at (table_bytes true (separated (network_of n))) q r.at from_fifth
         next_fourth q r w = writing_next o at whole out here fourth from_fifth g q r.at (rw em at w.writes)
 
       module _ (g : Writing o at (table_bytes true (separated (network_of n))) out here from_fifth) where
@@ -226,9 +226,12 @@ module _ {n : List ℕ} {h : Header} {index : List ℕ} {from last : ℕ} (p : P
         next_fifth q r w = writing_next o at whole out here fifth sixth g q r w
 
       -- the templates are copied
-      module _ (g : Writing o at (table_bytes true (separated (network_of n))) out here sixth) (a k : ℕ) (ea : a ≡ last) (ek : k ≡ h.last) where
-        pub room_sixth : (a + 2 * k ≤ length n) × (a + 2 * k ≤ 1000000) × Room here (take (2 * k) (drop a n))
-        room_sixth = rw (ea, ek) (last_end, omega (arith, last_end, short), omega (arith, g.place, fits))
+      module _ (g : Writing o at (table_bytes true (separated (network_of n))) out here sixth) (k : ℕ) (ek : k ≡ h.last) where
+        templates_are : last + 2 * k - last ≡ 2 * h.last
+        templates_are = omega (arith, ek)
 
-        pub tables_done : (q : List ℕ) (r : ℕ) → Writes out q here (take (2 * k) (drop a n)) r → Writes o q at (table_bytes true (separated (network_of n))) r
-        tables_done q r w = writing_last o at whole out here sixth g q r (rw (ea, ek) at w)
+        pub room_sixth : Room here (take (last + 2 * k - last) (drop last n))
+        room_sixth = rw templates_are (omega (arith, g.place, fits))
+
+        pub tables_done : (q : List ℕ) (r : ℕ) → Writes out q here (take (last + 2 * k - last) (drop last n)) r → Writes o q at (table_bytes true (separated (network_of n))) r
+        tables_done q r w = writing_last o at whole out here sixth g q r (rw templates_are at w)

@@ -30,15 +30,16 @@ numbered i t = record { from = t.from; kind = t.kind; unit = t.unit; condition =
 abbrev guarded_at : List ℕ → ℕ → ℕ → List ℕ
 guarded_at n place i = paired_bytes (guarded_by i (paired_form.value (drop place n)))
 
--- One transition: six bytes of t, then those behind the sixth of the k that it has.
-module _ (n : List ℕ) (place i : ℕ) (within : place + paired_form.size (drop place n) ≤ length n) (t : Transition) (e : t ≡ transition_of (drop place n)) (a z k : ℕ) (ea : a ≡ place) (ez : z ≡ paired_form.size (drop place n)) (ek : k ≡ z) where
+-- One transition: six bytes of t, then those behind the sixth of the z that it has.
+module _ (n : List ℕ) (place i : ℕ) (within : place + paired_form.size (drop place n) ≤ length n) (t : Transition) (e : t ≡ transition_of (drop place n)) (z : ℕ) (ez : z ≡ paired_form.size (drop place n)) where
   abbrev behind : List ℕ
-  behind = take (k - 6) (drop (a + 6) n)
+  behind = take (place + z - (place + 6)) (drop (place + 6) n)
 
   behind_is : counted_pairs (paired_form.value (drop place n)).pairs ≡ behind
   behind_is =
       let inside : paired_form.size (drop place n) ≤ length (drop place n) = omega (arith, length-drop place n) in
-      sym (counted_written (drop place n) inside) ∙ ap₂ (λ (j : ℕ) (l : List ℕ). take (j - 6) l) (sym (ek ∙ ez)) (drop-drop 6 place n ∙ ap (λ (j : ℕ). drop (j + 6) n) (sym ea))
+      let count : paired_form.size (drop place n) - 6 ≡ place + z - (place + 6) = omega (arith, ez) in
+      sym (counted_written (drop place n) inside) ∙ ap₂ (λ (j : ℕ) (l : List ℕ). take j l) count (drop-drop 6 place n)
 
   guarded_bytes : guarded_at n place i ≡ base_bytes (numbered i t) ++ behind
   guarded_bytes = ap₂ (λ (u : Transition) (l : List ℕ). base_bytes (numbered i u) ++ l) (sym e) behind_is

@@ -44,10 +44,10 @@ module _ {s : List ℕ} {h : Header} {f : Frame} {from : ℕ} (p : Prepared s h 
   first = written word_bytes (table word_form h.monitors s 14)
 
   abbrev second : List ℕ
-  second = texts_at s conditions h.conditions
+  second = texts_at false s conditions h.conditions
 
   abbrev third : List ℕ
-  third = texts_at s actions h.actions
+  third = texts_at false s actions h.actions
 
   abbrev fourth : List ℕ
   fourth = copied_bytes s f from h.transitions
@@ -108,13 +108,13 @@ module _ {s : List ℕ} {h : Header} {f : Frame} {from : ℕ} (p : Prepared s h 
 
   module _ (out : List ℕ) (here : ℕ) where
     module _ (g : Writing o at whole out here from_second) (n : ℕ) (en : n ≡ after word_form h.monitors s 14) where
-      pub room_second : Room here (texts_at s n h.conditions)
+      pub room_second : Room here (texts_at false s n h.conditions)
       room_second = rw en (writing_room o at whole out here second (1 ∷ 0 ∷ from_third) g total)
 
-      pub next_second : (q : List ℕ) (r : Both) → WritesTexts s out q n h.conditions here r → Writing o at whole q r.at (1 ∷ 0 ∷ from_third)
+      pub next_second : (q : List ℕ) (r : Both) → WritesTexts false s out q n h.conditions here r → Writing o at whole q r.at (1 ∷ 0 ∷ from_third)
       next_second q r w = writing_next o at whole out here second (1 ∷ 0 ∷ from_third) g q r.at (rw en at w.writes)
 
-      pub read_second : (q : List ℕ) (r : Both) → WritesTexts s out q n h.conditions here r → r.from ≡ after (text_form false) h.conditions s (after word_form h.monitors s 14)
+      pub read_second : (q : List ℕ) (r : Both) → WritesTexts false s out q n h.conditions here r → r.from ≡ after (text_form false) h.conditions s (after word_form h.monitors s 14)
       read_second q r w = rw en at w.read
 
     module _ (g : Writing o at whole out here (1 ∷ 0 ∷ from_third)) where
@@ -125,10 +125,10 @@ module _ {s : List ℕ} {h : Header} {f : Frame} {from : ℕ} (p : Prepared s h 
       next_true q r w = writing_next o at whole out here (1 ∷ 0 ∷ []) from_third g q r w
 
     module _ (g : Writing o at whole out here from_third) (n : ℕ) (en : n ≡ after (text_form false) h.conditions s (after word_form h.monitors s 14)) where
-      pub room_third : Room here (texts_at s n h.actions)
+      pub room_third : Room here (texts_at false s n h.actions)
       room_third = rw en (writing_room o at whole out here third (0 ∷ from_fourth) g total)
 
-      pub next_third : (q : List ℕ) (r : Both) → WritesTexts s out q n h.actions here r → Writing o at whole q r.at (0 ∷ from_fourth)
+      pub next_third : (q : List ℕ) (r : Both) → WritesTexts false s out q n h.actions here r → Writing o at whole q r.at (0 ∷ from_fourth)
       next_third q r w = writing_next o at whole out here third (0 ∷ from_fourth) g q r.at (rw en at w.writes)
 
     module _ (g : Writing o at whole out here (0 ∷ from_fourth)) where

@@ -18,9 +18,6 @@ size_at-place-requires c = (next_small c.requires.0 _ _ (rw c.requires.1 at c.lo
 pub overflow_add-place : goal.overflow_add-place
 overflow_add-place c = record { fits = omega (arith, (next_small c.requires.0 _ _ (rw c.requires.1 at c.loop-k-test.true) c.loop-k.invariant.reached).1, c.size_at-place.ensures.0) }
 
-pub overflow_add-k : goal.overflow_add-k
-overflow_add-k c = record { fits = omega (arith, (next_small c.requires.0 _ _ (rw c.requires.1 at c.loop-k-test.true) c.loop-k.invariant.reached).2) }
-
 pub loop-k-preserved : goal.loop-k-preserved
 loop-k-preserved c =
     let pre = c.requires in

@@ -1,21 +1,19 @@
 -- `card::condition` meets its contract. Assumes nothing.
 use native.Mathlib.Omega.{arith}
-use Rattle.translation.proofs.Sheets.Copying.{whole_room, whole_writes}
-use Rattle.translation.proofs.Cards.Reaching.{few_conditions_lem, condition_most, condition_is}
+use Rattle.translation.proofs.Cards.Reaching.{few_conditions_lem, condition_is}
 use Rattle.translation.proofs.card.condition.Goals as goal
 
-pub bounds-index-near : goal.bounds-index-near
-bounds-index-near c =
+pub bounds-net-from : goal.bounds-net-from
+bounds-net-from c =
     let pre = c.requires in
-    omega (arith, c.near.ensures.0, pre.1, few_conditions_lem pre.0)
+    omega (arith, c.from.ensures, pre.1, few_conditions_lem pre.0)
 
-pub copy-requires : goal.copy-requires
-copy-requires c =
+pub put-requires : goal.put-requires
+put-requires c =
     let pre = c.requires in
-    let same = condition_is pre.0 _ _ c.near.ensures.0 pre.1 _ c.condition_at-text.ensures in
-    whole_room _ _ _ same (omega (arith, condition_most pre.0 c.args.i)) pre.2
+    rw (condition_is pre.0 _ _ c.from.ensures pre.1 _ c.condition_at-text.ensures) pre.2
 
 pub returns : goal.returns
 returns c =
     let pre = c.requires in
-    whole_writes _ _ (condition_is pre.0 _ _ c.near.ensures.0 pre.1 _ c.condition_at-text.ensures) c.copy.ensures
+    rw (condition_is pre.0 _ _ c.from.ensures pre.1 _ c.condition_at-text.ensures) at c.put.ensures

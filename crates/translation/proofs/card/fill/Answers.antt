@@ -4,8 +4,8 @@ use Rattle.translation.proofs.Cards.CardTabling.{counted}
 use Rattle.translation.proofs.Cards.CardFilling.{filled}
 use Rattle.translation.proofs.card.fill.Goals as goal
 
-pub overflow_add-net : goal.overflow_add-net
-overflow_add-net c = record { fits = omega (arith, (counted c.requires.0).1) }
+pub overflow_add-head : goal.overflow_add-head
+overflow_add-head c = record { fits = omega (arith, (counted c.requires.0).1) }
 
 pub tables-requires : goal.tables-requires
 tables-requires c = (c.requires.0, c.header-at.ensures.next)

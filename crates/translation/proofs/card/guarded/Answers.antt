@@ -1,21 +1,14 @@
 -- `card::guarded` meets its contract. Assumes nothing.
-use native.Mathlib.Omega.{arith}
 use Rattle.translation.proofs.Cards.Guarding.{guarded_room, guarded_then}
 use Rattle.translation.proofs.card.guarded.Goals as goal
 
-pub copy-requires : goal.copy-requires
-copy-requires c =
+pub put-requires : goal.put-requires
+put-requires c =
     let start = c in
     let pre = start.requires in
-    let from = c.far.ensures.0 in
-    let size = c.size_at.ensures.0 in
-    let same = c.far-2.ensures.0 in (
-      omega (arith, pre.0, from, size, same),
-      omega (arith, pre.0, pre.1, from, size, same),
-      guarded_room _ start.args.place start.args.number pre.0 _ c.transition_at-t.ensures _ _ _ from size same c.base-next.ensures pre.2,
-    )
+    guarded_room _ start.args.place start.args.number pre.0 _ c.transition_at-t.ensures _ c.size_at.ensures.0 c.base-next.ensures pre.2
 
 pub returns : goal.returns
 returns c =
     let start = c in
-    guarded_then _ start.args.place start.args.number start.requires.0 _ c.transition_at-t.ensures _ _ _ c.far.ensures.0 c.size_at.ensures.0 c.far-2.ensures.0 c.base-next.ensures c.copy.ensures
+    guarded_then _ start.args.place start.args.number start.requires.0 _ c.transition_at-t.ensures _ c.size_at.ensures.0 c.base-next.ensures c.put.ensures

@@ -1,12 +1,12 @@
 -- `card::size_at` meets its contract. Assumes nothing.
+use borrow.Author.Rules.{rules}
 use mathlib.Core.Path.{ap, ◌∙◌}
 use Prim.Native.Nat.{ℕ, ◌+◌, ◌*◌}
-use native.Mathlib.Omega.{arith}
 use Rattle.sheet.proofs.Readers.Loops.{byte_past}
 use Rattle.translation.proofs.card.size_at.Goals as goal
 
 pub returns : goal.returns
 returns c =
     let a = c.args in
-    let count = c.wide.ensures in
-    (ap (λ (k : ℕ). 7 + 2 * k) (count.0 ∙ c.byte_at.ensures ∙ byte_past a.n.now a.place 6), omega (arith, count.1))
+    let count = c.from.ensures in
+    (ap (λ (k : ℕ). 7 + 2 * k) (count ∙ c.byte_at.ensures ∙ byte_past a.n.now a.place 6), search rules)

@@ -8,7 +8,7 @@ use Rattle.translation.proofs.write.fill.Goals as goal
 pub overflow_add-n : goal.overflow_add-n
 overflow_add-n c =
     let p = c.requires in
-    let small = few_transitions p.0 _ c.near.ensures.0 _ p.1 in
+    let small = few_transitions p.0 _ c.from.ensures _ p.1 in
     search (rules, small)
 
 pub overflow_add-net : goal.overflow_add-net
@@ -20,7 +20,7 @@ overflow_add-net-2 c = record { fits = omega (arith, (few_texts c.requires.0).1)
 pub overflow_cast-net : goal.overflow_cast-net
 overflow_cast-net c =
     let p = c.requires in
-    let small = few_transitions p.0 _ c.near.ensures.0 _ p.1 in
+    let small = few_transitions p.0 _ c.from.ensures _ p.1 in
     search (rules, small)
 
 pub overflow_cast-size : goal.overflow_cast-size
@@ -36,4 +36,4 @@ tables-requires c = (c.requires.0, c.header-at.ensures.next)
 pub returns : goal.returns
 returns c =
     let p = c.requires in
-    filled p.0 _ p.1 _ c.near.ensures.0 _ p.2 _ _ c.header-at.ensures _ _ c.tables.ensures
+    filled p.0 _ p.1 _ c.from.ensures _ p.2 _ _ c.header-at.ensures _ _ c.tables.ensures

@@ -20,18 +20,18 @@ texts-conditions-requires c =
     let at = b.args.at in
     let e = b.requires.1 in
     let g1 = next_first p o at e _ _ c.words-first.ensures in
-    let k = words_after b.args.s.now _ _ c.wide.ensures.0 in
+    let k = words_after b.args.s.now _ _ c.from.ensures in
     (conditions_end p o at e _ k, (places_small p o at e).2, room_second p o at e _ _ g1 _ k)
 
-pub put_two-second-requires : goal.put_two-second-requires
-put_two-second-requires c =
+pub put-second-requires : goal.put-second-requires
+put-second-requires c =
     let b = c in
     let p = b.requires.0 in
     let o = b.args.out.now in
     let at = b.args.at in
     let e = b.requires.1 in
     let g1 = next_first p o at e _ _ c.words-first.ensures in
-    let k = words_after b.args.s.now _ _ c.wide.ensures.0 in
+    let k = words_after b.args.s.now _ _ c.from.ensures in
     let g2 = next_second p o at e _ _ g1 _ k _ _ c.texts-conditions.ensures in
     room_true p o at e _ _ g2
 
@@ -43,9 +43,9 @@ texts-actions-requires c =
     let at = b.args.at in
     let e = b.requires.1 in
     let g1 = next_first p o at e _ _ c.words-first.ensures in
-    let k = words_after b.args.s.now _ _ c.wide.ensures.0 in
+    let k = words_after b.args.s.now _ _ c.from.ensures in
     let g2 = next_second p o at e _ _ g1 _ k _ _ c.texts-conditions.ensures in
-    let g3 = next_true p o at e _ _ g2 _ _ c.put_two-second.ensures in
+    let g3 = next_true p o at e _ _ g2 _ _ c.put-second.ensures in
     let m = read_second p o at e _ _ g1 _ k _ _ c.texts-conditions.ensures in
     (actions_end p o at e _ m, (places_small p o at e).2, room_third p o at e _ _ g3 _ m)
 
@@ -57,9 +57,9 @@ put-third-requires c =
     let at = b.args.at in
     let e = b.requires.1 in
     let g1 = next_first p o at e _ _ c.words-first.ensures in
-    let k = words_after b.args.s.now _ _ c.wide.ensures.0 in
+    let k = words_after b.args.s.now _ _ c.from.ensures in
     let g2 = next_second p o at e _ _ g1 _ k _ _ c.texts-conditions.ensures in
-    let g3 = next_true p o at e _ _ g2 _ _ c.put_two-second.ensures in
+    let g3 = next_true p o at e _ _ g2 _ _ c.put-second.ensures in
     let m = read_second p o at e _ _ g1 _ k _ _ c.texts-conditions.ensures in
     let g4 = next_third p o at e _ _ g3 _ m _ _ c.texts-actions.ensures in
     room_empty p o at e _ _ g4
@@ -72,9 +72,9 @@ transitions-fourth-requires c =
     let at = b.args.at in
     let e = b.requires.1 in
     let g1 = next_first p o at e _ _ c.words-first.ensures in
-    let k = words_after b.args.s.now _ _ c.wide.ensures.0 in
+    let k = words_after b.args.s.now _ _ c.from.ensures in
     let g2 = next_second p o at e _ _ g1 _ k _ _ c.texts-conditions.ensures in
-    let g3 = next_true p o at e _ _ g2 _ _ c.put_two-second.ensures in
+    let g3 = next_true p o at e _ _ g2 _ _ c.put-second.ensures in
     let m = read_second p o at e _ _ g1 _ k _ _ c.texts-conditions.ensures in
     let g4 = next_third p o at e _ _ g3 _ m _ _ c.texts-actions.ensures in
     let g5 = next_empty p o at e _ _ g4 _ _ c.put-third.ensures in
@@ -88,9 +88,9 @@ states-last-requires c =
     let at = b.args.at in
     let e = b.requires.1 in
     let g1 = next_first p o at e _ _ c.words-first.ensures in
-    let k = words_after b.args.s.now _ _ c.wide.ensures.0 in
+    let k = words_after b.args.s.now _ _ c.from.ensures in
     let g2 = next_second p o at e _ _ g1 _ k _ _ c.texts-conditions.ensures in
-    let g3 = next_true p o at e _ _ g2 _ _ c.put_two-second.ensures in
+    let g3 = next_true p o at e _ _ g2 _ _ c.put-second.ensures in
     let m = read_second p o at e _ _ g1 _ k _ _ c.texts-conditions.ensures in
     let g4 = next_third p o at e _ _ g3 _ m _ _ c.texts-actions.ensures in
     let g5 = next_empty p o at e _ _ g4 _ _ c.put-third.ensures in
@@ -105,9 +105,9 @@ templates-requires c =
     let at = b.args.at in
     let e = b.requires.1 in
     let g1 = next_first p o at e _ _ c.words-first.ensures in
-    let k = words_after b.args.s.now _ _ c.wide.ensures.0 in
+    let k = words_after b.args.s.now _ _ c.from.ensures in
     let g2 = next_second p o at e _ _ g1 _ k _ _ c.texts-conditions.ensures in
-    let g3 = next_true p o at e _ _ g2 _ _ c.put_two-second.ensures in
+    let g3 = next_true p o at e _ _ g2 _ _ c.put-second.ensures in
     let m = read_second p o at e _ _ g1 _ k _ _ c.texts-conditions.ensures in
     let g4 = next_third p o at e _ _ g3 _ m _ _ c.texts-actions.ensures in
     let g5 = next_empty p o at e _ _ g4 _ _ c.put-third.ensures in
@@ -123,9 +123,9 @@ returns c =
     let at = b.args.at in
     let e = b.requires.1 in
     let g1 = next_first p o at e _ _ c.words-first.ensures in
-    let k = words_after b.args.s.now _ _ c.wide.ensures.0 in
+    let k = words_after b.args.s.now _ _ c.from.ensures in
     let g2 = next_second p o at e _ _ g1 _ k _ _ c.texts-conditions.ensures in
-    let g3 = next_true p o at e _ _ g2 _ _ c.put_two-second.ensures in
+    let g3 = next_true p o at e _ _ g2 _ _ c.put-second.ensures in
     let m = read_second p o at e _ _ g1 _ k _ _ c.texts-conditions.ensures in
     let g4 = next_third p o at e _ _ g3 _ m _ _ c.texts-actions.ensures in
     let g5 = next_empty p o at e _ _ g4 _ _ c.put-third.ensures in

@@ -9,14 +9,14 @@ use Rattle.translation.proofs.Sheets.Putting.{putting_start, putting_room, putti
 use Rattle.translation.proofs.write.templates.Goals as goal
 use Rattle.translation.proofs.write.templates.Invariants.{bytes}
 
-pub loop-left-init : goal.loop-left-init
-loop-left-init c = putting_start bytes triple_form _ _ _ _ _ _ (written_map template_bytes template_of _) c.requires.0 (search rules)
+pub loop-init : goal.loop-init
+loop-init c = putting_start bytes triple_form _ _ _ _ _ _ (written_map template_bytes template_of _) c.requires.0 (search rules)
 
-pub put_two-here-requires : goal.put_two-here-requires
-put_two-here-requires c = putting_room bytes triple_form _ _ _ _ _ _ _ _ c.loop-left.invariant 4 (λ s. refl) c.loop-left-test.true _ c.triple_at-t.ensures c.requires.1
+pub put-here-requires : goal.put-here-requires
+put-here-requires c = putting_room bytes triple_form _ _ _ _ _ _ _ _ _ c.loop.invariant 4 (λ s. refl) c.loop-test.true _ c.triple_at-t.ensures c.requires.1
 
-pub loop-left-preserved : goal.loop-left-preserved
-loop-left-preserved c = putting_next bytes triple_form _ _ _ _ _ _ _ _ c.loop-left.invariant 4 (λ s. refl) c.loop-left-test.true _ c.triple_at-t.ensures (omega arith) _ _ c.put_two-here.ensures
+pub loop-preserved : goal.loop-preserved
+loop-preserved c = putting_next bytes triple_form _ _ _ _ _ _ _ _ _ c.loop.invariant 4 (λ s. refl) c.loop-test.true _ c.triple_at-t.ensures (omega arith) _ _ c.put-here.ensures
 
 pub returns : goal.returns
-returns c = putting_end bytes triple_form _ _ _ _ _ _ _ _ c.loop-left.invariant c.loop-left-test.false
+returns c = putting_end bytes triple_form _ _ _ _ _ _ _ _ _ c.loop.invariant c.loop-test.false

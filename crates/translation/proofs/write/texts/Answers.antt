@@ -1,32 +1,24 @@
 -- `write::texts` meets its contract. Assumes nothing.
 use native.Mathlib.Omega.{arith}
-use Rattle.translation.proofs.Sheets.Copying.{texts_start, text_within, texts_room, texts_next, texts_end}
+use Rattle.translation.proofs.Sheets.Texts.{texts_start, texts_within, length_room, text_room, texts_next, texts_end}
 use Rattle.translation.proofs.write.texts.Goals as goal
 
-pub loop-left-init : goal.loop-left-init
-loop-left-init c = texts_start _ _ _ _ _
+pub loop-init : goal.loop-init
+loop-init c = texts_start _ _ _ _ _ _
 
-pub copy-here-requires : goal.copy-here-requires
-copy-here-requires c =
-    let pre = c.requires in
-    let from = c.far.ensures.0 in
-    let size = c.far-in-loop-left.ensures.0 in
-    let within = text_within _ _ _ _ _ _ _ _ _ c.loop-left.invariant c.loop-left-test.true _ _ c.byte_at.ensures c.wide-size.ensures.0 pre.0 in (
-      omega (arith, within, from, size),
-      omega (arith, within, from, size, pre.1),
-      texts_room _ _ _ _ _ _ _ _ _ c.loop-left.invariant c.loop-left-test.true _ _ c.byte_at.ensures c.wide-size.ensures.0 _ _ from size pre.2,
-    )
+pub put_length-next-requires : goal.put_length-next-requires
+put_length-next-requires c = length_room _ _ _ _ _ _ _ _ _ _ c.loop.invariant c.loop-test.true _ c.byte_at-size.ensures c.requires.0 c.requires.2
 
-pub overflow_add-place : goal.overflow_add-place
-overflow_add-place c =
-    let pre = c.requires in
-    let within = text_within _ _ _ _ _ _ _ _ _ c.loop-left.invariant c.loop-left-test.true _ _ c.byte_at.ensures c.wide-size.ensures.0 pre.0 in
-    record { fits = omega (arith, within, pre.1) }
+pub put-here-requires : goal.put-here-requires
+put-here-requires c = text_room _ _ _ _ _ _ _ _ _ _ c.loop.invariant c.loop-test.true _ c.byte_at-size.ensures c.requires.0 _ _ c.put_length-next.ensures _ c.action_at.ensures c.requires.2
 
-pub loop-left-preserved : goal.loop-left-preserved
-loop-left-preserved c =
-    texts_next _ _ _ _ _ _ _ _ _ c.loop-left.invariant c.loop-left-test.true _ _ c.byte_at.ensures c.wide-size.ensures.0 _ _
-    c.far.ensures.0 c.far-in-loop-left.ensures.0 _ _ c.copy-here.ensures
+pub overflow_add-place-in-loop : goal.overflow_add-place-in-loop
+overflow_add-place-in-loop c =
+    let within = texts_within _ _ _ _ _ _ _ _ _ _ c.loop.invariant c.loop-test.true _ c.byte_at-size.ensures c.requires.0 in
+    record { fits = omega (arith, within, c.from.ensures, c.requires.1) }
+
+pub loop-preserved : goal.loop-preserved
+loop-preserved c = rw c.from.ensures (texts_next _ _ _ _ _ _ _ _ _ _ c.loop.invariant c.loop-test.true _ c.byte_at-size.ensures c.requires.0 _ _ c.put_length-next.ensures _ c.action_at.ensures _ _ c.put-here.ensures)
 
 pub returns : goal.returns
-returns c = texts_end _ _ _ _ _ _ _ _ _ c.loop-left.invariant c.loop-left-test.false
+returns c = texts_end _ _ _ _ _ _ _ _ _ _ c.loop.invariant c.loop-test.false

@@ -8,19 +8,19 @@ use Rattle.translation.specs.Walk.{copied_at}
 use Rattle.translation.proofs.Sheets.Putting.{putting_start, putting_room, putting_next, putting_end, written_map}
 use Rattle.translation.proofs.write.transitions.Goals as goal
 
-pub loop-left-init : goal.loop-left-init
-loop-left-init c = putting_start _ transition_form _ _ _ _ _ _ (written_map paired_bytes _ _) c.requires.1 (search rules)
+pub loop-init : goal.loop-init
+loop-init c = putting_start _ transition_form _ _ _ _ _ _ (written_map paired_bytes _ _) c.requires.1 (search rules)
 
 pub transition-here-requires : goal.transition-here-requires
 transition-here-requires c =
     let start = c in
-    (start.requires.0, putting_room (λ t. paired_bytes (copied_at start.args.s.now start.args.f t)) transition_form _ _ _ _ _ _ _ _ c.loop-left.invariant 6 (λ s. refl) c.loop-left-test.true _ refl start.requires.2)
+    (start.requires.0, putting_room (λ t. paired_bytes (copied_at start.args.s.now start.args.f t)) transition_form _ _ _ _ _ _ _ _ _ c.loop.invariant 6 (λ s. refl) c.loop-test.true _ refl start.requires.2)
 
-pub loop-left-preserved : goal.loop-left-preserved
-loop-left-preserved c =
+pub loop-preserved : goal.loop-preserved
+loop-preserved c =
     let a = c.args in
-    putting_next (λ t. paired_bytes (copied_at a.s.now a.f t)) transition_form _ _ _ _ _ _ _ _ c.loop-left.invariant 6 (λ s. refl) c.loop-left-test.true _ refl (omega arith) _ _
+    putting_next (λ t. paired_bytes (copied_at a.s.now a.f t)) transition_form _ _ _ _ _ _ _ _ _ c.loop.invariant 6 (λ s. refl) c.loop-test.true _ refl (omega arith) _ _
     c.transition-here.ensures
 
 pub returns : goal.returns
-returns c = putting_end _ transition_form _ _ _ _ _ _ _ _ c.loop-left.invariant c.loop-left-test.false
+returns c = putting_end _ transition_form _ _ _ _ _ _ _ _ _ c.loop.invariant c.loop-test.false

@@ -5,8 +5,5 @@ use Rattle.sheet.specs.Encode.{word_bytes, written}
 use Rattle.translation.proofs.Sheets.Putting.{Putting}
 use Rattle.translation.proofs.write.words.Given as goal
 
-abbrev pub invariant-loop-left : goal.invariant-loop-left
-invariant-loop-left l = Putting word_bytes word_form l.s l.initial.out l.at (written word_bytes (table word_form l.n l.s l.from)) l.out l.left l.place l.here
-
-abbrev pub decreases-loop-left : goal.decreases-loop-left
-decreases-loop-left l = l.left
+abbrev pub invariant-loop : goal.invariant-loop
+invariant-loop l = Putting word_bytes word_form l.s l.initial.out l.at (written word_bytes (table word_form l.n l.s l.from)) l.n l.out l.counter l.place l.here
