@@ -25,7 +25,7 @@ loop-i-preserved c =
     let h = c.loop-i-test.true in
     let e = c.from-asked.ensures in
     let (held, much) = c.holds-held.ensures in
-    let next = c.from.ensures in
+    let next = c.from-in-loop-i.ensures in
     let all = asked_next a.s.now a.plan.now E _ i _ counted h _ e _ much _ next in
     elim c.if-held.branch [
       | then-held w ↦ let t = armed_here a.s.now a.plan.now E i h _ e _ held _ next w.if-held.true in
