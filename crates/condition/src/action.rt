@@ -7,7 +7,6 @@ ghost use Rattle.condition.specs.Answer.{most_variables, run_outcome, run_counte
 ghost use Rattle.condition.specs.Walk.{Cursor, ValueAt, SkipsAssignment, Assigns, ran, evaluated};
 
 use crate::evaluate::C;
-use crate::word::wide;
 use crate::{Lent, VARIABLES, evaluate, front, skip};
 
 // Carries out a whole run, in order: how much was evaluated of its values. A malformed one is none, and
@@ -47,7 +46,7 @@ fn assign<'a>(
     requires { (length s.now ≤ 65534) × ((c % 65536 < length s.now) × (c / 65536 ≤ c % 65536)) }
     ensures { Assigns (environment program.now (take count variables.old) kept.now) s.now (c % 65536) (c / 65536) (result % 65536) (result / 65536) count variables.old variables.new }
 {
-    let target = wide(s[c % C]);
+    let target = usize::from(s[c % C]);
     let r = value(s, c + 1, program, variables, count, kept);
     if target < count {} else {
         return s.len() + 1;
@@ -93,8 +92,8 @@ fn skip_assignment(s: &[u8], at: usize, lent: Lent) -> usize
     requires { (length s.now ≤ 65535) × (at < length s.now) }
     ensures { SkipsAssignment lent s.now at result }
 {
-    if wide(s[at]) < lent.monitors {
-        skip::value(&s, at + 1, lent.programs, lent.monitors, lent.kept)
+    if usize::from(s[at]) < lent.monitors {
+        skip::value(&s, at + 1, lent)
     } else {
         s.len() + 1
     }

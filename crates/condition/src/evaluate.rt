@@ -9,7 +9,7 @@ ghost use Rattle.condition.specs.Word.{plus_word, minus_word, less_word, equal_w
 ghost use Rattle.condition.specs.Meaning.{lent};
 ghost use Rattle.condition.specs.Walk.{Cursor, ConditionAt, ValueAt, Passes, condition_reader, value_reader, banks, Judged, Packed, negated, LiteralTried, VariableTried, LeafEvaluated, SimpleEvaluated};
 
-use crate::{skip, word};
+use crate::{Lent, skip, word};
 
 // How many words there are: a value's result is its cursor times W, and its word.
 const W: usize = 4294967296;
@@ -17,6 +17,7 @@ const W: usize = 4294967296;
 // A cursor is its count times C, and its place. One past 65,534 bytes is still below C, and no count
 // is over its place, so that a cursor and a word share a machine word. The place is the low part since
 // it is asked for most; what has it at hand passes it on.
+// Packed: a tail call carries both, and no struct comes back through memory, docs/DECISIONS.md 13, 126.
 pub(crate) const C: usize = 65536;
 
 // What an operator, a constant and a variable add to a cursor: one count, and their bytes.
@@ -27,6 +28,7 @@ const CONSTANT: usize = 65541;
 const VARIABLE: usize = 65538;
 
 // The cursor behind an operand, 0 where there is none, and its word.
+// 0 for none: who reads one takes it on as it is or calls instead, docs/DECISIONS.md 13.
 #[derive(Clone, Copy)]
 pub(crate) struct Operand {
     pub next: usize,
@@ -197,7 +199,7 @@ fn leaf(s: &&[u8], c: usize, at: usize, e: &[&[u32]; 3]) -> Operand
     if at + 1 < s.len() {} else {
         return Operand { next: 0, word: 0 };
     }
-    let o = word::wide(s[at]);
+    let o = usize::from(s[at]);
     if o == 16 {
         return literal(s, c, at);
     }
@@ -218,7 +220,7 @@ fn literal(s: &&[u8], c: usize, at: usize) -> Operand
     if at + 5 <= s.len() {
         Operand {
             next: c + CONSTANT,
-            word: word::big_endian(s[at + 1], s[at + 2], s[at + 3], s[at + 4]),
+            word: u32::from_be_bytes([s[at + 1], s[at + 2], s[at + 3], s[at + 4]]),
         }
     } else {
         Operand { next: 0, word: 0 }
@@ -230,7 +232,7 @@ fn variable(s: &&[u8], c: usize, at: usize, values: &[u32]) -> Operand
     requires { (length s.now.now ≤ 65534) × (at + 1 < length s.now.now) × (c < 2 ^ 32) }
     ensures { VariableTried s.now.now c at values.now result.next result.word }
 {
-    let i = word::wide(s[at + 1]);
+    let i = usize::from(s[at + 1]);
     if i < values.len() {
         Operand {
             next: c + VARIABLE,
@@ -246,14 +248,25 @@ fn pass_condition(s: &&[u8], c: usize, e: &[&[u32]; 3]) -> usize
     requires { Cursor s.now.now c }
     ensures { Passes (condition_reader (lent (banks e.now))) s.now.now c result }
 {
-    skip::condition(s, c % C, e[0].len(), e[1].len(), e[2].len()) + c / C * C
+    skip::condition(s, c % C, lent_in(e)) + c / C * C
 }
 
 fn pass_value(s: &&[u8], c: usize, e: &[&[u32]; 3]) -> usize
     requires { Cursor s.now.now c }
     ensures { Passes (value_reader (lent (banks e.now))) s.now.now c result }
 {
-    skip::value(s, c % C, e[0].len(), e[1].len(), e[2].len()) + c / C * C
+    skip::value(s, c % C, lent_in(e)) + c / C * C
+}
+
+// How many values e lends of each kind.
+fn lent_in(e: &[&[u32]; 3]) -> Lent
+    ensures { result ≡ lent (banks e.now) }
+{
+    Lent {
+        programs: e[0].len(),
+        monitors: e[1].len(),
+        kept: e[2].len(),
+    }
 }
 
 fn judged(next: usize, holds: bool) -> usize

@@ -119,7 +119,8 @@ pub fn holds_at<'a>(
     }
 }
 
-// The result of evaluating the condition there, or 0: one number, so that who asks takes it apart once.
+// The result of evaluating the condition there, or 0. Packed: who asks takes it apart once,
+// docs/DECISIONS.md 126.
 fn found_at<'a>(
     s: &[u8],
     at: usize,
@@ -225,7 +226,7 @@ fn text_at(s: &[u8], at: usize) -> &[u8]
         return &s[..0];
     }
     let rest = &s[at + 1..];
-    let size = word::wide(s[at]);
+    let size = usize::from(s[at]);
     if size < rest.len() {
         &rest[..size]
     } else {
@@ -240,7 +241,7 @@ pub fn is_condition(s: &[u8], lent: Lent) -> bool
     if (1 <= s.len()) & (s.len() <= LONGEST) {} else {
         return false;
     }
-    let end = skip::condition(&s, 0, lent.programs, lent.monitors, lent.kept);
+    let end = skip::condition(&s, 0, lent);
     end == s.len()
 }
 

@@ -2,59 +2,59 @@
 // end where the bytes there are none, or name a variable that is not lent.
 
 ghost use Rattle.std.specs.Prelude.{◌≡◌, ◌+◌, ◌<◌, ◌≤◌, length};
-ghost use Rattle.condition.specs.Walk.{Skips, condition_reader, value_reader, lent_of, literal_end, variable_end, EndTried, LeafSkipped};
+ghost use Rattle.condition.specs.Walk.{Skips, condition_reader, value_reader, literal_end, variable_end, EndTried, LeafSkipped};
 
-use crate::word::wide;
+use crate::Lent;
 
 #[cycle(condition_value)]
-pub(crate) fn condition(s: &&[u8], at: usize, p: usize, m: usize, k: usize) -> usize
+pub(crate) fn condition(s: &&[u8], at: usize, lent: Lent) -> usize
     requires { (length s.now.now ≤ 65535) × (at ≤ length s.now.now + 1) }
-    ensures { Skips (condition_reader (lent_of p m k)) s.now.now at result }
+    ensures { Skips (condition_reader lent) s.now.now at result }
 {
     if at < s.len() {} else {
         return s.len() + 1;
     }
     match s[at] {
         0 => at + 1,
-        1 => condition(s, at + 1, p, m, k),
-        2 => condition(s, condition(s, at + 1, p, m, k), p, m, k),
-        3 => condition(s, condition(s, at + 1, p, m, k), p, m, k),
+        1 => condition(s, at + 1, lent),
+        2 => condition(s, condition(s, at + 1, lent), lent),
+        3 => condition(s, condition(s, at + 1, lent), lent),
         4 | 5 => {
-            let l = leaf(s, at + 1, p, m, k);
-            let next = if l == 0 { value(s, at + 1, p, m, k) } else { l };
-            value(s, next, p, m, k)
+            let l = leaf(s, at + 1, lent);
+            let next = if l == 0 { value(s, at + 1, lent) } else { l };
+            value(s, next, lent)
         }
         6 => {
-            let l = leaf(s, at + 1, p, m, k);
-            let next = if l == 0 { value(s, at + 1, p, m, k) } else { l };
-            let last = value(s, next, p, m, k);
-            value(s, last, p, m, k)
+            let l = leaf(s, at + 1, lent);
+            let next = if l == 0 { value(s, at + 1, lent) } else { l };
+            let last = value(s, next, lent);
+            value(s, last, lent)
         }
         _ => s.len() + 1,
     }
 }
 
 #[cycle(condition_value)]
-pub(crate) fn value(s: &&[u8], at: usize, p: usize, m: usize, k: usize) -> usize
+pub(crate) fn value(s: &&[u8], at: usize, lent: Lent) -> usize
     requires { (length s.now.now ≤ 65535) × (at ≤ length s.now.now + 1) }
-    ensures { Skips (value_reader (lent_of p m k)) s.now.now at result }
+    ensures { Skips (value_reader lent) s.now.now at result }
 {
     if at < s.len() {} else {
         return s.len() + 1;
     }
     match s[at] {
         20 | 21 => {
-            let l = leaf(s, at + 1, p, m, k);
-            let next = if l == 0 { value(s, at + 1, p, m, k) } else { l };
-            value(s, next, p, m, k)
+            let l = leaf(s, at + 1, lent);
+            let next = if l == 0 { value(s, at + 1, lent) } else { l };
+            value(s, next, lent)
         }
         22 => {
-            let next = condition(s, at + 1, p, m, k);
-            let last = value(s, next, p, m, k);
-            value(s, last, p, m, k)
+            let next = condition(s, at + 1, lent);
+            let last = value(s, next, lent);
+            value(s, last, lent)
         }
         _ => {
-            let l = leaf(s, at, p, m, k);
+            let l = leaf(s, at, lent);
             if l == 0 { s.len() + 1 } else { l }
         }
     }
@@ -62,18 +62,18 @@ pub(crate) fn value(s: &&[u8], at: usize, p: usize, m: usize, k: usize) -> usize
 
 // The place behind a constant or a variable, without the cost of a recursive call; 0, which is
 // behind nothing, where there is none.
-fn leaf(s: &&[u8], at: usize, p: usize, m: usize, k: usize) -> usize
+fn leaf(s: &&[u8], at: usize, lent: Lent) -> usize
     requires { (length s.now.now ≤ 65535) × (at ≤ length s.now.now + 1) }
-    ensures { LeafSkipped (lent_of p m k) s.now.now at result }
+    ensures { LeafSkipped lent s.now.now at result }
 {
     if at + 1 < s.len() {} else {
         return 0;
     }
     match s[at] {
         16 => literal(s, at),
-        17 => variable(s, at, p),
-        18 => variable(s, at, m),
-        19 => variable(s, at, k),
+        17 => variable(s, at, lent.programs),
+        18 => variable(s, at, lent.monitors),
+        19 => variable(s, at, lent.kept),
         _ => 0,
     }
 }
@@ -91,5 +91,9 @@ fn variable(s: &&[u8], at: usize, limit: usize) -> usize
     requires { (length s.now.now ≤ 65535) × (at + 1 < length s.now.now) }
     ensures { EndTried s.now.now (variable_end s.now.now at limit) result }
 {
-    if wide(s[at + 1]) < limit { at + 2 } else { 0 }
+    if usize::from(s[at + 1]) < limit {
+        at + 2
+    } else {
+        0
+    }
 }

@@ -2,7 +2,7 @@
 
 ghost use Rattle.std.specs.Prelude.{◌≡◌, ◌+◌, ◌%◌, ◌^◌, ◌<◌};
 ghost use Rattle.std.proofs.Math.IntN.{sub_ℕ};
-ghost use Rattle.condition.specs.Word.{unsigned, clamp, plus_word, minus_word, less_word, within_word, big_endian};
+ghost use Rattle.condition.specs.Word.{unsigned, clamp, plus_word, minus_word, less_word, within_word};
 
 use std::num::{wrapping_add_u32, wrapping_sub_u32};
 
@@ -62,17 +62,4 @@ pub(crate) fn within(a: u32, b: u32, k: u32) -> bool
 {
     let elapsed = wrapping_sub_u32(a, b);
     elapsed <= k
-}
-
-pub(crate) fn wide(x: u8) -> usize
-    ensures { (result ≡ x) × (result < 256) }
-{
-    x as usize
-}
-
-// Four bytes, the highest first.
-pub(crate) fn big_endian(a: u8, b: u8, c: u8, d: u8) -> u32
-    ensures { result ≡ big_endian a b c d }
-{
-    (((wide(a) * 256 + wide(b)) * 256 + wide(c)) * 256 + wide(d)) as u32
 }

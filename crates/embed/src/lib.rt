@@ -144,8 +144,8 @@ fn numbered(answer: RunAnswer) -> Numbers
         RunAnswer::Clean(n, q, k) => Numbers {
             code: 0,
             first: n,
-            second: q as u32,
-            third: k as u32,
+            second: u32::from(q),
+            third: u32::from(k),
             fourth: 0,
         },
         RunAnswer::Refused(reason) => Numbers {
@@ -169,9 +169,9 @@ fn state(cause: Cause) -> u32
     ensures { result ≡ or_none (cause_state cause) }
 {
     match cause {
-        Cause::BadState(q) => q as u32,
+        Cause::BadState(q) => u32::from(q),
         Cause::Triple(_) => 256,
-        Cause::Both(q, _) => q as u32,
+        Cause::Both(q, _) => u32::from(q),
     }
 }
 
@@ -180,7 +180,7 @@ fn triple(cause: Cause) -> u32
 {
     match cause {
         Cause::BadState(_) => 256,
-        Cause::Triple(t) => t as u32,
-        Cause::Both(_, t) => t as u32,
+        Cause::Triple(t) => u32::from(t),
+        Cause::Both(_, t) => u32::from(t),
     }
 }

@@ -1,11 +1,12 @@
 -- The sheet of an input, the run of its network, and the lines that are printed. Assumes nothing.
 use mathlib.Core.Path.{◌≡◌, sym, ap, ◌∙◌}
 use mathlib.Core.List.{List}
-use Prim.Native.Nat.{ℕ, ◌+◌, ◌-◌, ◌*◌, ◌≤◌, ◌<◌}
+use Prim.Native.Nat.{ℕ, ◌-◌, ◌≤◌, ◌<◌}
 use native.Mathlib.Omega.{arith}
 use borrow.Author.Tests.{lt-ltb, le-ltb, le-leb, lt-leb}
-use lib.ListN.{length, take, drop, get_or, length-drop}
+use lib.ListN.{length, take, drop, length-drop}
 use lib.Seq.{sets, take_all}
+use Rattle.sheet.specs.Bytes.{half}
 use Rattle.step.specs.declared.RunAnswer.{RunAnswer}
 use Rattle.step.specs.Answers as ending
 use Rattle.step.specs.Answers.{Ending, run_paper}
@@ -27,14 +28,14 @@ module _ (i : List ℕ) where
   unfolding sheet_size
   size_all h = rw (lt-ltb (length i) 2 h)
 
-  module _ (h : 2 ≤ length i) (a b : ℕ) (e : a ≡ get_or i 0 0) (f : b ≡ get_or i 1 0) where
-    pub size_said : a * 256 + b < length i → a * 256 + b ≡ sheet_size i
+  module _ (h : 2 ≤ length i) (said : ℕ) (e : said ≡ half i 0) where
+    pub size_said : said < length i → said ≡ sheet_size i
     unfolding sheet_size
-    size_said k = rw (le-ltb (length i) 2 h, ← e, ← f) (omega arith)
+    size_said k = rw (le-ltb (length i) 2 h, ← e) (omega arith)
 
-    pub size_short : length i ≤ a * 256 + b → length i ≡ sheet_size i
+    pub size_short : length i ≤ said → length i ≡ sheet_size i
     unfolding sheet_size
-    size_short k = rw (le-ltb (length i) 2 h, ← e, ← f) (omega arith)
+    size_short k = rw (le-ltb (length i) 2 h, ← e) (omega arith)
 
 -- what translating a sheet answered, and the run on what it left in the buffer
 module _ (s buffer : List ℕ) (t : Result ℕ Refusal) (e : translated_paper t ≡ translated_of s buffer) where

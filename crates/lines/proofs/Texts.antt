@@ -11,27 +11,25 @@ use Rattle.translation.proofs.Writing.{Writing, writing_start, stored_is, writin
 use Rattle.lines.specs.Walk.{Puts}
 
 -- The bytes from i on are to be stored.
-pub record Storing (o : List ℕ) (at : ℕ) (t out : List ℕ) (i : ℕ) : Type 0 where
-  pub writing : Writing o at t out (at + i) (drop i t)
-  pub within : i ≤ length t
+abbrev pub Storing : List ℕ → ℕ → List ℕ → List ℕ → ℕ → Type 0
+Storing o at t out i = Writing o at t out (at + i) (drop i t)
 
 module _ (o : List ℕ) (at : ℕ) (t : List ℕ) where
   pub text_start : Storing o at t o 0
   text_start =
       let e : at + 0 ≡ at = omega arith in
-      record { writing = rw e (writing_start o at t); within = omega arith }
+      rw e (writing_start o at t)
 
   module _ (out : List ℕ) (i : ℕ) (g : Storing o at t out i) where
     pub text_next : i < length t → (p : List ℕ) → ((at + i < length out) × (p ≡ set out (at + i) (get_or t i 0))) ⊎ ((length out ≤ at + i) × (p ≡ out)) → Storing o at t p (i + 1)
     text_next h p w =
         let e : at + (i + 1) ≡ at + i + 1 = omega arith in
-        record {
-          writing = rw (e, add-one i) (writing_next o at t out (at + i) (get_or t i 0 ∷ []) (drop (suc i) t) (rw (drop-cons t i 0 h) at g.writing) p (at + i + 1) (stored_is out p (at + i) (get_or t i 0) w));
-          within = omega arith;
-        }
+        rw (e, add-one i) (writing_next o at t out (at + i) (get_or t i 0 ∷ []) (drop (suc i) t) (rw (drop-cons t i 0 h) at g) p (at + i + 1) (stored_is out p (at + i) (get_or t i 0) w))
 
-    pub text_end : length t ≤ 20 → length t ≤ i → Puts o out at t (at + i) 20
-    text_end few h = record { writes = writing_end o at t out (at + i) (rw (drop_of_length-le t h) at g.writing); near = omega (arith, g.within) }
+    pub text_end : length t ≤ 20 → i ≡ length t → Puts o out at t (at + length t) 20
+    text_end few e =
+        let all : length t ≤ i = omega arith in
+        record { writes = rw (← e) (writing_end o at t out (at + i) (rw (drop_of_length-le t all) at g)); near = omega arith }
 
 -- one behind the other; and a text is no longer than that
 module _ {o p q : List ℕ} {at m r a b : ℕ} where

@@ -34,7 +34,7 @@ fn sheet_size(input: &[u8]) -> usize
     if input.len() < 2 {
         return input.len();
     }
-    let said = wide(input[0]) * 256 + wide(input[1]);
+    let said = usize::from(u16::from_be_bytes([input[0], input[1]]));
     if said < input.len() {
         said
     } else {
@@ -62,10 +62,4 @@ fn network_run(s: &[u8], log: &[u8]) -> RunAnswer
         }
         Err(reason) => RunAnswer::Refused(reason),
     }
-}
-
-fn wide(x: u8) -> usize
-    ensures { (result ≡ x) × (result < 256) }
-{
-    x as usize
 }

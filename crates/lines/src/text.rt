@@ -16,11 +16,11 @@ pub(crate) fn line(out: &mut [u8], at: usize, answer: RunAnswer) -> usize
         RunAnswer::Violated(v) => violated(out, at, v),
         RunAnswer::Clean(n, q, k) => clean(out, at, n, q, k),
         RunAnswer::Refused(reason) => {
-            let next = named(out, at, b"refused ", word(reason.number()));
+            let next = named(out, at, b"refused ", u32::from(reason.number()));
             text(out, next, b"\n")
         }
         RunAnswer::RefusedAt(reason, record) => {
-            let next = named(out, at, b"refused ", word(reason.number()));
+            let next = named(out, at, b"refused ", u32::from(reason.number()));
             let next = named(out, next, b" at ", record);
             text(out, next, b"\n")
         }
@@ -35,18 +35,18 @@ fn violated(out: &mut [u8], at: usize, v: Verdict) -> usize
     let next = named(out, at, b"violated ", v.position);
     match cause {
         Cause::BadState(q) => {
-            let next = named(out, next, b" state ", word(q));
+            let next = named(out, next, b" state ", u32::from(q));
             text(out, next, b" triple - entry -\n")
         }
         Cause::Triple(t) => {
             let next = text(out, next, b" state -");
-            let next = named(out, next, b" triple ", word(t));
+            let next = named(out, next, b" triple ", u32::from(t));
             let next = named(out, next, b" entry ", v.entry);
             text(out, next, b"\n")
         }
         Cause::Both(q, t) => {
-            let next = named(out, next, b" state ", word(q));
-            let next = named(out, next, b" triple ", word(t));
+            let next = named(out, next, b" state ", u32::from(q));
+            let next = named(out, next, b" triple ", u32::from(t));
             let next = named(out, next, b" entry ", v.entry);
             text(out, next, b"\n")
         }
@@ -58,8 +58,8 @@ fn clean(out: &mut [u8], at: usize, n: u32, q: u8, k: u8) -> usize
     ensures { Puts out.old out.new at (line_of (Clean n q k)) result 150 }
 {
     let next = named(out, at, b"clean ", n);
-    let next = named(out, next, b" state ", word(q));
-    let next = named(out, next, b" open ", word(k));
+    let next = named(out, next, b" state ", u32::from(q));
+    let next = named(out, next, b" open ", u32::from(k));
     text(out, next, b"\n")
 }
 
@@ -89,25 +89,17 @@ fn digit(d: u32) -> u8
     requires { d < 10 }
     ensures { result ≡ digit d }
 {
-    48 + d as u8
+    b'0' + d as u8
 }
 
 pub(crate) fn text(out: &mut [u8], at: usize, t: &[u8]) -> usize
     requires { (at ≤ 3000) × (length t.now ≤ 20) }
     ensures { Puts out.old out.new at t.now result 20 }
 {
-    let mut i = 0;
-    while i < t.len() {
+    for (i, byte) in t.iter().enumerate() {
         if at + i < out.len() {
-            out[at + i] = t[i];
+            out[at + i] = *byte;
         }
-        i += 1;
     }
-    at + i
-}
-
-fn word(x: u8) -> u32
-    ensures { (result ≡ x) × (result < 256) }
-{
-    x as u32
+    at + t.len()
 }

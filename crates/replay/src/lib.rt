@@ -74,6 +74,7 @@ fn offer_all(network: &[u8], log: &[u8], programs: u8, answers: &mut [u8]) -> Re
     let mut state = fresh.state;
     let mut i: u32 = 0;
     let mut at: u32 = 6;
+    // Counted by hand: a record's place and its number go on together, and the place ends the loop.
     while at < end {
         let next = offer_at(network, state, log, at, programs);
         let answer = next.answer;
@@ -93,7 +94,7 @@ fn offer_all(network: &[u8], log: &[u8], programs: u8, answers: &mut [u8]) -> Re
 fn record_size(programs: u8) -> u32
     ensures { result ≡ record_size programs }
 {
-    4 + 4 * (programs as u32)
+    4 + 4 * u32::from(programs)
 }
 
 // Offers the record at a place of a log, with its values.
@@ -104,8 +105,7 @@ fn offer_at(network: &[u8], state: NetworkState, log: &[u8], at: u32, programs: 
 {
     let event = sheet::record_at(log, at);
     let words = sheet::words_at(log, at + 4, programs);
-    let count = programs as usize;
-    network::offer(network, state, event, &words[..count])
+    network::offer(network, state, event, &words[..usize::from(programs)])
 }
 
 // An answer as a number.
@@ -118,7 +118,8 @@ fn number(answer: Result<(), Refusal>) -> u8
     }
 }
 
-// Puts a byte at a place, where there is one.
+// Puts a byte at a place, where there is one: by its index, since a proof knows no element that is
+// written through `get_mut`.
 fn put(out: &mut [u8], at: u32, b: u8)
     ensures { out.new ≡ set out.old at b }
 {

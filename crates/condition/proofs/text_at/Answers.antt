@@ -11,7 +11,7 @@ pub slice_bounds-result-end-then-size-rest : goal.slice_bounds-result-end-then-s
 slice_bounds-result-end-then-size-rest c = sym (length-take-le _ _ (omega (arith, ap length (rest_all c.args.s.now (c.args.at + 1)), length-drop (c.args.at + 1) c.args.s.now)))
 
 pub returns-then-size-rest : goal.returns-then-size-rest
-returns-then-size-rest c = rw (rest_all, ← c.wide-size.ensures.0)
+returns-then-size-rest c = rw (rest_all, ← c.from-size.ensures)
 
 pub returns-else-size-rest : goal.returns-else-size-rest
-returns-else-size-rest c = rest_all c.args.s.now (c.args.at + 1) ∙ sym (take_all (get_or c.args.s.now c.args.at 0) (drop (c.args.at + 1) c.args.s.now) (omega (arith, length-drop (c.args.at + 1) c.args.s.now, c.wide-size.ensures.0)))
+returns-else-size-rest c = rest_all c.args.s.now (c.args.at + 1) ∙ sym (take_all (get_or c.args.s.now c.args.at 0) (drop (c.args.at + 1) c.args.s.now) (omega (arith, length-drop (c.args.at + 1) c.args.s.now, c.from-size.ensures)))

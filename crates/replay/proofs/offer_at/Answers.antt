@@ -6,11 +6,11 @@ pub slice_bounds-offer-end : goal.slice_bounds-offer-end
 slice_bounds-offer-end c =
     let b = c in
     let a = b.args in
-    values_many a.programs a.log.now a.at b.requires.0 _ c.record_at-event.ensures _ c.words_at-words.ensures
+    rw c.from.ensures (values_many a.programs a.log.now a.at b.requires.0 _ c.record_at-event.ensures _ c.words_at-words.ensures)
 
 pub returns : goal.returns
 returns c =
     let b = c in
     let a = b.args in
-    let all = offered_there a.programs a.log.now a.at b.requires.0 _ c.record_at-event.ensures _ c.words_at-words.ensures _ _ c.offer.result c.offer.ensures.answer_value c.offer.ensures.state_value in
+    let all = offered_there a.programs a.log.now a.at b.requires.0 _ c.record_at-event.ensures _ c.words_at-words.ensures _ _ c.offer.result (rw c.from.ensures at c.offer.ensures.answer_value) (rw c.from.ensures at c.offer.ensures.state_value) in
     record { answer_value = all.0; state_value = all.1 }

@@ -2,8 +2,8 @@
 use Rattle.condition.proofs.Running.{skips_assignment, skips_unlent}
 use Rattle.condition.proofs.action.skip_assignment.Goals as goal
 
-pub returns-then-wide-lent : goal.returns-then-wide-lent
-returns-then-wide-lent c = skips_assignment _ _ _ c.requires.1 _ (rw c.wide.ensures.0 at c.if-wide-lent.true) c.value.ensures
+pub returns-then-from-lent : goal.returns-then-from-lent
+returns-then-from-lent c = skips_assignment _ _ _ c.requires.1 _ (rw c.from.ensures at c.if-from-lent.true) c.value.ensures
 
-pub returns-else-wide-lent : goal.returns-else-wide-lent
-returns-else-wide-lent c = skips_unlent _ _ _ c.requires.1 (rw c.wide.ensures.0 at c.if-wide-lent.false)
+pub returns-else-from-lent : goal.returns-else-from-lent
+returns-else-from-lent c = skips_unlent _ _ _ c.requires.1 (rw c.from.ensures at c.if-from-lent.false)

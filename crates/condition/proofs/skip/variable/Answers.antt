@@ -3,8 +3,8 @@ use Rattle.std.proofs.Common.{refl, arith, le-ltb, lt-ltb}
 use Rattle.condition.proofs.Walking.{tried, tried_none}
 use Rattle.condition.proofs.skip.variable.Goals as goal
 
-pub returns-then-wide-limit : goal.returns-then-wide-limit
-returns-then-wide-limit c = rw (lt-ltb _ _ c.requires.1, ← c.wide.ensures.0, lt-ltb _ _ c.if-wide-limit.true) (tried _ (omega arith) refl)
+pub returns-then-from-limit : goal.returns-then-from-limit
+returns-then-from-limit c = rw (lt-ltb _ _ c.requires.1, ← c.from.ensures, lt-ltb _ _ c.if-from-limit.true) (tried _ (omega arith) refl)
 
-pub returns-else-wide-limit : goal.returns-else-wide-limit
-returns-else-wide-limit c = rw (lt-ltb _ _ c.requires.1, ← c.wide.ensures.0, le-ltb _ _ c.if-wide-limit.false) (tried_none refl)
+pub returns-else-from-limit : goal.returns-else-from-limit
+returns-else-from-limit c = rw (lt-ltb _ _ c.requires.1, ← c.from.ensures, le-ltb _ _ c.if-from-limit.false) (tried_none refl)

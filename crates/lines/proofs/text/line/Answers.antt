@@ -11,7 +11,7 @@ pub returns-in-Clean : goal.returns-in-Clean
 returns-in-Clean c = says_answer (search rules) c.clean.ensures
 
 pub returns-in-Refused : goal.returns-in-Refused
-returns-in-Refused c = says_answer (search rules) (says_refused _ (c.word.ensures.0 ∙ c.number.ensures) c.named-next.ensures c.text.ensures)
+returns-in-Refused c = says_answer (search rules) (says_refused _ (c.from.ensures ∙ c.number.ensures) c.named-next.ensures c.text.ensures)
 
 pub returns-in-RefusedAt : goal.returns-in-RefusedAt
-returns-in-RefusedAt c = says_answer (search rules) (says_refused_at _ _ (c.word-in-RefusedAt.ensures.0 ∙ c.number-in-RefusedAt.ensures) c.named-next-in-RefusedAt.ensures c.named-next-in-RefusedAt-2.ensures c.text-in-RefusedAt.ensures)
+returns-in-RefusedAt c = says_answer (search rules) (says_refused_at _ _ (c.from-in-RefusedAt.ensures ∙ c.number-in-RefusedAt.ensures) c.named-next-in-RefusedAt.ensures c.named-next-in-RefusedAt-2.ensures c.text-in-RefusedAt.ensures)
