@@ -98,7 +98,13 @@ fn record_size(programs: u8) -> u32
 }
 
 // Offers the record at a place of a log, with its values.
-fn offer_at(network: &[u8], state: NetworkState, log: &[u8], at: u32, programs: u8) -> Offered<NetworkState>
+fn offer_at(
+    network: &[u8],
+    state: NetworkState,
+    log: &[u8],
+    at: u32,
+    programs: u8,
+) -> Offered<NetworkState>
     requires { (programs ≤ 8) × (at + 4 < 4294967296) }
     ensures answer_value { answer_paper result.answer ≡ answer_of (offer_of network.now state ((event_form programs).value (drop at log.now))).answer }
     ensures state_value { result.state ≡ (offer_of network.now state ((event_form programs).value (drop at log.now))).state }
