@@ -14,6 +14,7 @@ use reference::implementation::sheet::{Sheet, LONGEST_SHEET};
 use reference::implementation::translate::{translate, translate_to, BUFFER, CARD_BUFFER};
 use reference::making::cases::rival_sheets;
 use reference::making::cases::sheet_cases::{LOG_A, SHEET_A};
+use reference::making::draft::NetworkDraft;
 use reference::making::generate::{damaged, network_case, run_case, RunCase};
 use reference::making::random::Random;
 use reference::making::scripts::count_forms::Form;
@@ -23,6 +24,7 @@ use reference::making::workloads;
 use std::fs;
 use std::path::{Path, PathBuf};
 use std::process::{Command, Output};
+use std::thread;
 
 const INPUTS: usize = 20_000;
 /// What stands in bytes that are not to be written.
@@ -107,6 +109,38 @@ fn a_count_over_32_bits() {
     assert_eq!((answer.code, answer.numbers), (0, [events, 0, 0, 0]));
     assert_eq!(answer.count, one * calls as u64);
     assert!(answer.count > u64::from(u32::MAX));
+}
+
+/// Networks of version 3 with one condition, as deep as its bytes allow: in the last operand, in the first, and where it
+/// is passed over.
+fn deep_networks() -> Vec<Vec<u8>> {
+    let conditions = [
+        [vec![1; 1_023], vec![0]].concat(),
+        [vec![2; 511], vec![0; 512]].concat(),
+        [[2, 0].repeat(511), vec![0]].concat(),
+        [vec![3, 0], vec![1; 1_021], vec![0]].concat(),
+    ];
+    let network_of = |condition| {
+        let mut network = NetworkDraft::new(1, 1, 0, &[]);
+        network.front.conditions = vec![condition];
+        network.front.actions = vec![vec![]];
+        network.creating([0, 0, 0, 0, 0, 0], &[]);
+        network.in_version_3().bytes()
+    };
+    conditions.into_iter().map(network_of).collect()
+}
+
+/// On a stack of as many bytes as `embed/watch.h` says were used at most. Where they are too few, a signal ends the test.
+#[test]
+fn deep_conditions_on_a_small_stack() {
+    let log = write_log(0, &[entry(0, 7, &[])]);
+    let networks = deep_networks();
+    let expected: Vec<Answer> = networks.iter().map(|n| numbered(run_network(n, &log))).collect();
+    assert!(expected.iter().all(|answer| answer.code == 0));
+    let run_all = move || networks.iter().map(|n| proved::run_network(n, &log)).collect();
+    let small = thread::Builder::new().stack_size(54 * 1024);
+    let answers: Vec<Answer> = small.spawn(run_all).unwrap().join().unwrap();
+    assert_eq!(answers, expected);
 }
 
 fn any_network(random: &mut Random, number: usize) -> (Vec<u8>, Vec<u8>) {

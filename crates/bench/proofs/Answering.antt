@@ -118,6 +118,10 @@ stored_padded n g s eight high long z =
     ∙ ap (λ t. s ++ t) (zeros (drop n g) (8 - n) z (length-drop n g ∙ omega arith))
     ∙ ap (λ k. s ++ replicate (8 - k) 0) (sym long)
 
+module _ (n : ℕ) {t : Bool} (e : t ≡ in_range n) where
+  pub in_range_lem : t ≡ true → n ≤ 8
+  in_range_lem d = (range_parts n (sym e ∙ d)).1
+
 -- The answers of `first`.
 module _ (n : ℕ) (range : in_range n ≡ true) {k : ℕ} (e : k ≡ n) {p : Pending} (u : p ≡ one_condition) {o : Option (List ℕ)}
     (h : o ≡ stored (replicate 8 0) 0 (completed (k - 0) p)) where

@@ -4,18 +4,36 @@ use mathlib.Core.List.{List, [], ◌∷◌}
 use Prim.Native.Nat.{ℕ, suc, ◌+◌, ◌-◌, ◌≤◌, ◌<◌}
 use native.Mathlib.Numerals.{add-one}
 use native.Mathlib.Omega.{arith}
+use lib.Dec.{ltb, leb}
 use lib.ListN.{length, get_or, set, take, drop, length-drop}
 use lib.Seq.{sets, set-get_or, get_or-take, drop-cons, drop-length, length-take-le}
 use Rattle.std.specs.Prelude.{Bool, true, false, is_some, max, Option, None, Some, option_and_then}
 use Rattle.std.specs.Option.{option_or}
+use Rattle.std.proofs.lemmas.Bool.{and_parts}
+use borrow.Author.Tests.{ne_eqb, ltb-true, leb-true}
+use Rattle.condition.specs.Parse.{no_condition, condition_operator}
 use Rattle.bench.specs.declared.parts.Part.TheVariants as part
 use Rattle.bench.specs.declared.parts.Part.{Part}
 use Rattle.bench.specs.declared.parts.Pending.{Pending}
 use Rattle.bench.specs.declared.search.Found.{Found}
-use Rattle.bench.specs.Walk.{split_first, onward, lowest, limit, seek, least_of, least, prefixed, completed, greater_at, following, if_some, accepts, stored, fits}
+use Rattle.bench.specs.Walk.{Small, split_first, onward, lowest, limit, seek, least_of, least, prefixed, completed, greater_at, following, if_some, accepts, stored, fewest, enough, orders, fits}
 
 none_some : {v : List ℕ} → ◌≡◌ {A = Option (List ℕ)} None (Some v) → ⊥
 none_some e = let z : ◌≡◌ {A = Bool} false true = ap is_some e in let y : ◌≡◌ {A = ℕ} 0 1 = cc in omega arith
+
+-- Bytes that are no operator.
+module _ (b : ℕ) where
+  pub no_condition_lem : (b ≡ 0 → ⊥) → (b ≡ 1 → ⊥) → (b ≡ 2 → ⊥) → (b ≡ 3 → ⊥) → (b ≡ 4 → ⊥) → (b ≡ 5 → ⊥) → (b ≡ 6 → ⊥) → condition_operator b ≡ no_condition
+  unfolding condition_operator
+  no_condition_lem n0 n1 n2 n3 n4 n5 n6 = rw (ne_eqb b 0 n0, ne_eqb b 1 n1, ne_eqb b 2 n2, ne_eqb b 3 n3, ne_eqb b 4 n4, ne_eqb b 5 n5, ne_eqb b 6 n6)
+
+-- What eight bytes can hold is small.
+pub fits_small : (p : Pending) (k : ℕ) → k ≤ 8 → fits p k ≡ true → Small p
+unfolding fits
+fits_small p k l h =
+    let (a, b) = and_parts (ltb p.order orders) (enough p k) h in
+    let m = leb-true (fewest p) k (and_parts (leb (fewest p) k) _ b).0 in
+    record { order = ltb-true p.order orders a; parts = omega arith }
 
 -- The least byte.
 pub seek_on : (f : ℕ → Option Pending) (h b : ℕ) → b < h → f b ≡ None → seek f (h - (b + 1)) (b + 1) ≡ seek f (h - b) b

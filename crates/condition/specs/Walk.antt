@@ -13,6 +13,9 @@ abbrev pub bit : Bool → ℕ
 bit true = 1
 bit false = 0
 
+abbrev pub lent_of : ℕ → ℕ → ℕ → Lent
+lent_of p m k = record { programs = p; monitors = m; kept = k }
+
 -- r is the place in s behind what was parsed, or one past the end where it is malformed
 abbrev pub Ends : {A : Type 0} → List ℕ → ℕ → Parsed A → Type 0
 Ends s r malformed = r ≡ length s + 1

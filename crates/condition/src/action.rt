@@ -93,7 +93,7 @@ fn skip_assignment(s: &[u8], at: usize, lent: Lent) -> usize
     ensures { SkipsAssignment lent s.now at result }
 {
     if usize::from(s[at]) < lent.monitors {
-        skip::value(&s, at + 1, lent)
+        skip::value(&s, at + 1, lent.programs, lent.monitors, lent.kept)
     } else {
         s.len() + 1
     }

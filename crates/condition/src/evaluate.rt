@@ -9,7 +9,7 @@ ghost use Rattle.condition.specs.Word.{plus_word, minus_word, less_word, equal_w
 ghost use Rattle.condition.specs.Meaning.{lent};
 ghost use Rattle.condition.specs.Walk.{Cursor, ConditionAt, ValueAt, Passes, condition_reader, value_reader, banks, Judged, Packed, negated, LiteralTried, VariableTried, LeafEvaluated, SimpleEvaluated};
 
-use crate::{Lent, skip, word};
+use crate::{skip, word};
 
 // How many words there are: a value's result is its cursor times W, and its word.
 const W: usize = 4294967296;
@@ -248,25 +248,14 @@ fn pass_condition(s: &&[u8], c: usize, e: &[&[u32]; 3]) -> usize
     requires { Cursor s.now.now c }
     ensures { Passes (condition_reader (lent (banks e.now))) s.now.now c result }
 {
-    skip::condition(s, c % C, lent_in(e)) + c / C * C
+    skip::condition(s, c % C, e[0].len(), e[1].len(), e[2].len()) + c / C * C
 }
 
 fn pass_value(s: &&[u8], c: usize, e: &[&[u32]; 3]) -> usize
     requires { Cursor s.now.now c }
     ensures { Passes (value_reader (lent (banks e.now))) s.now.now c result }
 {
-    skip::value(s, c % C, lent_in(e)) + c / C * C
-}
-
-// How many values e lends of each kind.
-fn lent_in(e: &[&[u32]; 3]) -> Lent
-    ensures { result ≡ lent (banks e.now) }
-{
-    Lent {
-        programs: e[0].len(),
-        monitors: e[1].len(),
-        kept: e[2].len(),
-    }
+    skip::value(s, c % C, e[0].len(), e[1].len(), e[2].len()) + c / C * C
 }
 
 fn judged(next: usize, holds: bool) -> usize

@@ -241,7 +241,7 @@ pub fn is_condition(s: &[u8], lent: Lent) -> bool
     if (1 <= s.len()) & (s.len() <= LONGEST) {} else {
         return false;
     }
-    let end = skip::condition(&s, 0, lent);
+    let end = skip::condition(&s, 0, lent.programs, lent.monitors, lent.kept);
     end == s.len()
 }
 

@@ -3,7 +3,7 @@
 #![tactic(auto)]
 
 use condition::Lent;
-use frames::{Frame, Frames, Reader, Words};
+use frames::{Frame, Frames, LentWords, Reader};
 use std::io;
 use std::io::{BufWriter, Read, Write};
 
@@ -22,9 +22,9 @@ enum Question {
 struct Case<'a> {
     question: Question,
     text: &'a [u8],
-    programs: Words,
-    monitors: Words,
-    kept: Words,
+    programs: LentWords<'a>,
+    monitors: LentWords<'a>,
+    kept: LentWords<'a>,
 }
 
 impl<'a> Frame<'a> for Case<'a> {
@@ -41,9 +41,9 @@ impl<'a> Frame<'a> for Case<'a> {
         Some(Case {
             question,
             text: page.part(usize::from(size))?,
-            programs: page.words()?,
-            monitors: page.words()?,
-            kept: page.words()?,
+            programs: page.lent_words()?,
+            monitors: page.lent_words()?,
+            kept: page.lent_words()?,
         })
     }
 }
@@ -91,9 +91,9 @@ fn answer<W: Write>(out: &mut W, case: &Case) -> io::Result<()> {
 fn print_condition<W: Write>(out: &mut W, case: &Case) -> io::Result<()> {
     let found = condition::evaluate_condition(
         case.text,
-        &case.programs,
-        &case.monitors,
-        &case.kept,
+        &case.programs.read(),
+        &case.monitors.read(),
+        &case.kept.read(),
     );
     match found.answer {
         Ok(holds) => write!(out, "{holds}")?,
@@ -103,7 +103,12 @@ fn print_condition<W: Write>(out: &mut W, case: &Case) -> io::Result<()> {
 }
 
 fn print_value<W: Write>(out: &mut W, case: &Case) -> io::Result<()> {
-    let found = condition::evaluate_value(case.text, &case.programs, &case.monitors, &case.kept);
+    let found = condition::evaluate_value(
+        case.text,
+        &case.programs.read(),
+        &case.monitors.read(),
+        &case.kept.read(),
+    );
     match found.answer {
         Ok(word) => write!(out, "{}", word.cast_signed())?,
         Err(refusal) => write!(out, "{refusal}")?,
@@ -114,11 +119,17 @@ fn print_value<W: Write>(out: &mut W, case: &Case) -> io::Result<()> {
 // The variables after an action: as many as were lent, and 0 is lent for each that is missing.
 fn print_performed<W: Write>(out: &mut W, case: &Case) -> io::Result<()> {
     let mut variables = [0; condition::VARIABLES];
-    for (variable, word) in variables.iter_mut().zip(case.monitors.iter()) {
+    for (variable, word) in variables.iter_mut().zip(case.monitors.read().iter()) {
         *variable = *word;
     }
     let count = case.monitors.len();
-    let done = condition::perform(case.text, &case.programs, variables, count, &case.kept);
+    let done = condition::perform(
+        case.text,
+        &case.programs.read(),
+        variables,
+        count,
+        &case.kept.read(),
+    );
     match done.answer {
         Ok(()) => {
             write!(out, "done")?;

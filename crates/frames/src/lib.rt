@@ -1,7 +1,7 @@
 // Frames of bytes, in which the programs of cases read what they are asked. Numbers are big-endian.
 #![tactic(auto)]
 
-ghost use Rattle.std.specs.Prelude.{◌≡◌, ◌↔◌, ℕ, List, ◌∷◌, ◌+◌, ◌*◌, ◌<◌, ◌≤◌, length, take, drop, slice_index, MatchOption, IfSome, IsSome};
+ghost use Rattle.std.specs.Prelude.{◌≡◌, ◌↔◌, ℕ, List, ◌∷◌, ◌+◌, ◌*◌, ◌/◌, ◌<◌, ◌≤◌, length, take, drop, slice_index, MatchOption, IfSome, IsSome};
 ghost use Rattle.std.specs.Int.{w16, w32, from_be_bytes};
 ghost use Rattle.std.specs.Iterator.{at_most};
 
@@ -88,6 +88,48 @@ impl<'a> Reader<'a> {
             words.push(self.word()?);
         }
         Some(words)
+    }
+
+    // The same words, still lent.
+    pub fn lent_words(&mut self) -> Option<LentWords<'a>>
+        ensures read { IfSome result (λ words. (length words.bytes.now ≡ 4 * slice_index self.old 0) × (self.new ≡ drop (1 + length words.bytes.now) self.old)) }
+        ensures no_more { length self.new ≤ length self.old }
+    {
+        let count = self.byte()?;
+        let bytes = self.part(4 * usize::from(count))?;
+        Some(LentWords { bytes })
+    }
+}
+
+// Words that stand in a page, and are read where they are asked for: a frame that is handed on brings no copies.
+#[derive(Clone, Copy)]
+pub struct LentWords<'a> {
+    bytes: &'a [u8],
+    ghost few: { length bytes.now ≤ 1020 },
+}
+
+impl<'a> LentWords<'a> {
+    pub fn len(&self) -> usize
+        ensures { result ≡ length self.now.bytes.now / 4 }
+    {
+        self.bytes.len() / 4
+    }
+
+    pub fn read(&self) -> Words
+        ensures { length result.items ≡ length self.now.bytes.now / 4 }
+    {
+        let mut words = Words::new();
+        for i in 0..self.len() {
+            let at = 4 * i;
+            let four = [
+                self.bytes[at],
+                self.bytes[at + 1],
+                self.bytes[at + 2],
+                self.bytes[at + 3],
+            ];
+            words.push(u32::from_be_bytes(four));
+        }
+        words
     }
 }
 

@@ -4,5 +4,6 @@ pub mod Widths
 pub mod Found
 pub mod Tallies
 pub mod Indexing
+pub mod Suits
 pub mod Refusals
 pub mod Logs

@@ -17,7 +17,8 @@ pub(crate) fn index(s: &[u8], at: usize, n: usize, w: bool) -> [u32; 161]
     numbers(Texts { wide: w }, s, at, n, |place| place as u32)
 }
 
-// Where the parts stand, by the tables.
+// Where the parts stand, by the tables. Inlined, so that who asks for some of them pays for those alone.
+#[inline(always)]
 pub(crate) fn places(s: &[u8], t: Tables) -> Places
     requires { (t.conditions ≤ 70000000) × (t.actions ≤ 70000000) × (t.transitions ≤ 70000000) × (t.last ≤ 70000000) }
     ensures { result ≡ places_by s.now t }

@@ -62,7 +62,14 @@ fn print_reading<W: Write>(
     places: Places,
 ) -> io::Result<()> {
     match reading {
-        Ok(()) => writeln!(out, "accepted {} {}", places.transitions, places.last),
+        Ok(()) => {
+            let Places {
+                transitions,
+                last,
+                ..
+            } = places;
+            writeln!(out, "accepted {transitions} {last}")
+        }
         Err(refusal) => writeln!(out, "{refusal}"),
     }
 }

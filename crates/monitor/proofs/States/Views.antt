@@ -91,6 +91,10 @@ module _ (P opened : ℕ) (calls : List Call) (arms : List Arms) (long : length 
       ∙ fit_take zero_arms (λ a. tidy_arms a && is_zero_arms a) zero_arms_lem opened arms (every_both tidy_arms is_zero_arms (drop opened arms) (every_drop tidy_arms opened arms h) z)
 
 module _ (S : Sheet) where
+  pub view_calls : (w : WatchState) → length w.calls ≡ length w.arms → map (λ (a : Armed). a.call) (view S w).calls ≡ map (unpad S.common.programs) (take w.opened w.calls)
+  unfolding view
+  view_calls w long = calls_of S.common.programs w.opened w.calls w.arms long
+
   -- a sound state is the padded form of what it shows
   pub pad_view : (w : WatchState) → sound_state S w ≡ true → pad (view S w) ≡ w
   unfolding sound_state tidy pad view

@@ -5,11 +5,18 @@ use borrow.Author.Tests.{lt-ltb, ltb-true}
 use lib.ListN.{replicate}
 use Rattle.std.specs.List.{find}
 use Rattle.std.specs.Option.{option_map}
+use Rattle.sheet.proofs.Tables.{and_parts}
 use Rattle.step.specs.declared.Call.{Call}
 use Rattle.step.specs.Lists.{first}
 use Rattle.network.specs.declared.NetworkState.{NetworkState}
 use Rattle.network.specs.Padded.{zero_checker}
 use Rattle.network.specs.Answers.{kept_by, entry_values}
+
+-- two bounds, both met
+pub both_below : (k m n : ℕ) → (ltb k m && ltb k n) ≡ true → (k < m) × (k < n)
+both_below k m n h =
+    let (a, b) = and_parts (ltb k m) (ltb k n) h in
+    (ltb-true k m a, ltb-true k n b)
 
 -- what the library finds is the first call that passes a test
 abbrev pub kept_of : Option Call → List ℕ

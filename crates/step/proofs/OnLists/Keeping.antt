@@ -9,9 +9,9 @@ use native.Mathlib.Numerals.{add-one}
 use native.Mathlib.Omega.{arith}
 use borrow.Author.Tests.{lt-ltb, eqb-false, ne_eqb}
 use lib.Dec.{eqb}
-use lib.ListN.{length, get_or, take, drop, length-take}
+use lib.ListN.{length, get_or, take, drop, length-map, length-take}
 use lib.Seq.{get_or-take}
-use Rattle.sheet.specs.Table.{every}
+use Rattle.sheet.specs.Table.{every, fit}
 use Rattle.sheet.proofs.Tables.{and_parts, and_both}
 use Rattle.sheet.proofs.Tests.{and_iff, not_iff}
 use Rattle.step.specs.Lists.{Among, first, keep, any, lesser, least, distinct, place_of}
@@ -19,6 +19,7 @@ use Rattle.step.specs.Walk.{least_of, number_in}
 use Rattle.step.proofs.OnLists.Lists.{any_map, least_some}
 use Rattle.step.proofs.OnLists.Filling.{keep_none_left, keep_here, keep_not_here}
 use Rattle.step.proofs.OnLists.Turns.{distinct_snoc}
+use Rattle.step.proofs.OnLists.Rooms.{take_fitted}
 
 -- What holds of all elements holds of each of them.
 pub every_among : {A : Type 0} (p : A → Bool) (l : List A) (x : A) → every p l ≡ true → Among x l → p x ≡ true
@@ -105,6 +106,14 @@ pub image_at : {A B : Type 0} (f : A → B) (d : B) (e : A) (l : List A) (i : �
 image_at f d e [] i h = absurd (omega arith)
 image_at f d e (x ∷ l) zero h = refl
 image_at f d e (x ∷ l) (suc i) h = image_at f d e l i (omega arith)
+
+-- A row with the images of a list in front: what stands there and where, and what is left where those that fail a test go.
+module _ {A B : Type 0} (f : A → B) (d : B) (size : ℕ) (l : List A) (few : length l ≤ size) where
+  pub row_out : take (length l) (fit size d (map f l)) ≡ map f l
+  row_out = take_fitted d size (length l) (map f l) (length-map l f) few
+
+  pub row_left : (q : B → Bool) → fit size d (keep q (take (length l) (fit size d (map f l)))) ≡ fit size d (map f (keep (λ x. q (f x)) l))
+  row_left q = ap (λ (r : List B). fit size d (keep q r)) row_out ∙ ap (fit size d) (keep_map q f l)
 
 -- Of a list: the first that passes a test stands at its place; a weaker test is passed too; tests that agree on its elements keep the same.
 module _ {A : Type 0} (p : A → Bool) where

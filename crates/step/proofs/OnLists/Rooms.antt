@@ -55,6 +55,13 @@ length_fit zero d l = refl
 length_fit (suc n) d [] = ap suc (length_fit n d [])
 length_fit (suc n) d (x ∷ l) = ap suc (length_fit n d l)
 
+pub fit_all : {A : Type 0} (d : A) (n : ℕ) (l : List A) → length l ≡ n → fit n d l ≡ l
+unfolding fit
+fit_all d zero [] h = refl
+fit_all d zero (x ∷ l) h = absurd (omega arith)
+fit_all d (suc n) [] h = absurd (omega arith)
+fit_all {A} d (suc n) (x ∷ l) h = ap (λ (m : List A). x ∷ m) (fit_all d n l (omega arith))
+
 -- one more element behind those of an array, and more of them; past the end nothing is stored
 module _ {A : Type 0} (d : A) where
   pub set_fit : (n : ℕ) (l : List A) (x : A) → set (fit n d l) (length l) x ≡ fit n d (l ++ x ∷ [])
@@ -190,6 +197,12 @@ exchanged true true c d = refl
 exchanged true false true d = refl
 exchanged true false false d = refl
 exchanged false b c d = refl
+
+-- two tests on every element
+pub every_and : {A : Type 0} (p q : A → Bool) (l : List A) → every (λ x. p x && q x) l ≡ (every p l && every q l)
+unfolding every
+every_and p q [] = refl
+every_and p q (x ∷ l) = ap (λ (b : Bool). (p x && q x) && b) (every_and p q l) ∙ exchanged (p x) (q x) (every p l) (every q l)
 
 never : (b : Bool) → (b && false) ≡ false
 never true = refl

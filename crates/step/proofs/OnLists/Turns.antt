@@ -1,6 +1,6 @@
 -- Tests on what a loop has yet to see of a list, and on what it has seen. Assumes nothing.
-use mathlib.Core.Path.{◌≡◌, refl}
-use mathlib.Core.Bool.{Bool, true, false, not, cond, ◌&&◌}
+use mathlib.Core.Path.{◌≡◌, refl, sym}
+use mathlib.Core.Bool.{Bool, true, false, not, cond, ◌&&◌, false≢true}
 use mathlib.Core.List.{List, [], ◌∷◌, ◌++◌}
 use Prim.Native.Nat.{ℕ}
 use lib.Dec.{eqb}
@@ -16,7 +16,7 @@ any_append p (x ∷ l) m = go (p x) (any_append p l m)
     go true h = refl
     go false h = h
 
--- Numbers that are all different, and one more of them.
+-- Numbers that are all different: one more of them, and those in front of others.
 pub distinct_snoc : (l : List ℕ) (n : ℕ) → distinct (l ++ n ∷ []) ≡ (distinct l && not (any (λ m. eqb m n) l))
 unfolding distinct any
 distinct_snoc [] n = refl
@@ -27,3 +27,13 @@ distinct_snoc (x ∷ l) n = rw (any_append (eqb x) l (n ∷ []), distinct_snoc l
     go false true true c = refl
     go false true false c = refl
     go false false d c = refl
+
+pub distinct_front : (l m : List ℕ) → distinct l ≡ false → distinct (l ++ m) ≡ false
+unfolding distinct any
+distinct_front [] m e = absurd (false≢true (sym e))
+distinct_front (x ∷ l) m e = rw (any_append (eqb x) l m) (go (any (eqb x) l) (any (eqb x) m) (distinct l) (distinct (l ++ m)) (distinct_front l m) e)
+  where
+    go : (a b d c : Bool) → (d ≡ false → c ≡ false) → (not a && d) ≡ false → (not (cond a true b) && c) ≡ false
+    go true b d c h k = refl
+    go false true d c h k = refl
+    go false false d c h k = h k
